@@ -1,0 +1,5 @@
+//! The syntax tree of the C profile: the code's tree, and the bare tree that contracts speak of.
+#![tactic(auto)]
+
+pub mod name;
+pub mod tree;
