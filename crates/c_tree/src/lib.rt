@@ -4,4 +4,5 @@
 pub mod boxed;
 pub mod items;
 pub mod name;
+pub mod place;
 pub mod tree;
