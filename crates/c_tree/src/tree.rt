@@ -71,7 +71,7 @@ pub type ParamList = Items<Param>;
 pub type ItemList = Items<Item>;
 
 /// An expression (C11 6.5).
-#[derive(Drop)]
+#[derive(Debug, Drop)]
 pub enum Expr {
     /// An integer constant; `value` is one that its type holds.
     Num {
@@ -116,7 +116,7 @@ pub enum Expr {
 }
 
 /// What is assigned: a variable where there are no subscripts, else an array's element.
-#[derive(Drop)]
+#[derive(Debug, Drop)]
 pub struct Target {
     pub name: Name,
     pub subs: ExprList,
@@ -135,7 +135,7 @@ pub enum Kind {
 }
 
 /// An element of a `counts` clause: `omp_fill`, or a number of iterations.
-#[derive(Drop)]
+#[derive(Debug, Drop)]
 pub enum Count {
     Fill(Span),
     Given(Expr),
@@ -143,7 +143,7 @@ pub enum Count {
 
 /// A directive with its clauses in the order of the text. Its span begins at its name.
 #[cycle(directives)]
-#[derive(Drop)]
+#[derive(Debug, Drop)]
 pub struct Directive {
     pub kind: Kind,
     pub clauses: ClauseList,
@@ -151,14 +151,14 @@ pub struct Directive {
 }
 
 #[cycle(directives)]
-#[derive(Drop)]
+#[derive(Debug, Drop)]
 pub struct Clause {
     pub kind: ClauseKind,
     pub span: Span,
 }
 
 #[cycle(directives)]
-#[derive(Drop)]
+#[derive(Debug, Drop)]
 pub enum ClauseKind {
     Sizes(ExprList),
     Permutation(ExprList),
@@ -177,7 +177,7 @@ pub enum ClauseKind {
 
 /// An element of an `apply` clause.
 #[cycle(directives)]
-#[derive(Drop)]
+#[derive(Debug, Drop)]
 pub enum ApplyItem {
     Nothing(Span),
     Apply(Directive),
@@ -185,7 +185,7 @@ pub enum ApplyItem {
 
 /// A statement or a declaration (C11 6.7, 6.8).
 #[cycle(statements)]
-#[derive(Drop)]
+#[derive(Debug, Drop)]
 pub enum Stmt {
     Decl {
         ty: Ty,
@@ -266,7 +266,7 @@ pub enum Stmt {
 /// The head of a `for` (C11 6.8.5.3). `init` is a `Decl` with a value, a `Set` or a `Step`; `step` is a `Set` or a
 /// `Step`. A part's place is that of its first token, and an absent part's that of the token which follows it.
 #[cycle(statements)]
-#[derive(Drop)]
+#[derive(Debug, Drop)]
 pub struct ForHead {
     pub init: Option<Box<Stmt>>,
     pub init_at: u64,
@@ -284,7 +284,7 @@ pub enum Port {
 }
 
 /// A function's parameter, which is passed by value.
-#[derive(Drop)]
+#[derive(Debug, Drop)]
 pub struct Param {
     pub ty: Ty,
     pub name: Name,
@@ -292,7 +292,7 @@ pub struct Param {
 }
 
 /// An item of a program's file (C11 6.9, 6.10.3).
-#[derive(Drop)]
+#[derive(Debug, Drop)]
 pub enum Item {
     /// `#define name value`, with a minus sign where `negative` holds.
     Define {
@@ -329,7 +329,7 @@ pub enum Item {
 }
 
 /// A whole program, its items in the order of the text.
-#[derive(Drop)]
+#[derive(Debug, Drop)]
 pub struct Program {
     pub items: ItemList,
 }
