@@ -2,6 +2,7 @@
 #![tactic(auto)]
 
 pub mod boxed;
+pub mod height;
 pub mod items;
 pub mod name;
 pub mod place;
