@@ -2,7 +2,7 @@
 -- directive, a file-scope variable, a function and `main` have height 1 plus the greatest height of the expressions,
 -- statements and directives directly in it, and 1 where it has none. The elements of a list, the parts of a `for` head
 -- and the expressions of a clause count as directly in the owner.
-use Rattle.std.specs.Prelude.{ℕ, ◌+◌, max, min, List, [], ◌∷◌, Option, Some, None}
+use Rattle.std.specs.Prelude.{ℕ, ◌+◌, ◌-◌, ◌^◌, max, min, List, [], ◌∷◌, Option, Some, None}
 use Rattle.c_tree.specs.Bare as b
 
 abbrev mutual
@@ -100,4 +100,4 @@ program_height (top ∷ tops) = max (top_height top) (program_height tops)
 
 -- a count that stops at 2^64 - 1
 abbrev pub capped : ℕ → ℕ
-capped n = min n 18446744073709551615
+capped n = min n (2 ^ 64 - 1)

@@ -2,6 +2,7 @@
 #![tactic(auto)]
 
 pub mod boxed;
+pub mod copy;
 pub mod height;
 pub mod items;
 pub mod name;
