@@ -1,5 +1,10 @@
 //! The syntax tree of the C profile: the code's tree, and the bare tree that contracts speak of.
 #![tactic(auto)]
 
+pub mod boxed;
+pub mod copy;
+pub mod height;
+pub mod items;
 pub mod name;
+pub mod place;
 pub mod tree;
