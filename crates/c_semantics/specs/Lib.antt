@@ -1,3 +1,4 @@
 pub mod Meaning
 pub mod Loops
 pub mod Structure
+pub mod Examples
