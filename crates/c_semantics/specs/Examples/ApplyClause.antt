@@ -1,9 +1,9 @@
 -- Worked examples: directives that the clause `apply` puts on generated loops.
-use Rattle.std.specs.Prelude.{ℕ, List, [], ◌∷◌, Some, codes}
+use Rattle.std.specs.Prelude.{ℕ, [], ◌∷◌, Some, codes}
 use Rattle.c_tree.specs.Bare.{Name, read, bin, fill, given, counts, full, partial, sizes, apply, Item, nothing, Stmt, Stmts}
 use Rattle.c_tree.specs.declared.tree.BinOp.TheVariants.{Mul, Add}
 use Rattle.c_tree.specs.declared.tree.Kind.TheVariants.{Tile, Unroll, Interchange, Reverse, Split}
-use Rattle.c_semantics.specs.Examples.Notation.{int, exprs, list, only, for_to, print_all, directed, applied_to, items, item_of, Prints, nats, f, p, HasLoops}
+use Rattle.c_semantics.specs.Examples.Notation.{int, exprs, only, for_to, print_all, directed, applied_to, items, item_of, Prints, nats, f, p, HasLoops}
 
 abbrev i : Name
 i = codes "i"

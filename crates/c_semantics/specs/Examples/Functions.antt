@@ -1,8 +1,8 @@
 -- Worked examples: calls, and constructs in functions.
-use Rattle.std.specs.Prelude.{ℕ, [], ◌∷◌, Some, None, codes}
-use Rattle.c_tree.specs.Bare.{Name, no_exprs, read, bin, Stmt, print, call, Stmts, Top, global, function, main, Program}
+use Rattle.std.specs.Prelude.{[], ◌∷◌, Some, None, codes}
+use Rattle.c_tree.specs.Bare.{Name, no_exprs, read, bin, print, call, Stmts, Top, global, function, main, Program}
 use Rattle.c_tree.specs.declared.tree.Ty.TheVariants.{Int, Long}
-use Rattle.c_tree.specs.declared.tree.BinOp.TheVariants.{Add, Mul, Lt}
+use Rattle.c_tree.specs.declared.tree.BinOp.TheVariants.{Add, Mul}
 use Rattle.c_tree.specs.declared.tree.SetOp.TheVariants as assigned
 use Rattle.c_tree.specs.declared.tree.Kind.TheVariants.{Reverse}
 use Rattle.c_semantics.specs.Meaning.Arithmetic.{Narrow}

@@ -1,6 +1,6 @@
 -- Short forms in which the worked examples are written.
-use Rattle.std.specs.Prelude.{◌≡◌, ℕ, ◌^◌, List, [], ◌∷◌, map, Some, None, true, ℤ, pos}
-use Rattle.c_tree.specs.Bare.{Name, Expr, num, read, bin, Exprs, no_exprs, more_exprs, target, Clauses, no_clauses, more_clauses, Clause, apply, Items, no_items, more_items, Item, acts, Directive, directive, Stmt, decl, set, step, print, for_, omp, Stmts, no_stmts, more_stmts, head, a_stmt, Param, main, Program}
+use Rattle.std.specs.Prelude.{◌≡◌, ℕ, ◌^◌, List, [], ◌∷◌, map, Some, true, ℤ, pos}
+use Rattle.c_tree.specs.Bare.{Name, Expr, num, read, bin, Exprs, no_exprs, more_exprs, target, Clauses, no_clauses, more_clauses, Clause, apply, Items, no_items, more_items, Item, acts, directive, Stmt, decl, set, step, print, for_, omp, Stmts, no_stmts, more_stmts, head, a_stmt, Param, main, Program}
 use Rattle.c_tree.specs.declared.tree.Ty.{Ty}
 use Rattle.c_tree.specs.declared.tree.Ty.TheVariants.{Int, Long}
 use Rattle.c_tree.specs.declared.tree.BinOp.TheVariants.{Lt}

@@ -1,13 +1,13 @@
 -- Worked examples: constructs over one loop.
-use Rattle.std.specs.Prelude.{ℕ, [], ◌∷◌, Some, None, pos, negsuc, codes}
-use Rattle.c_tree.specs.Bare.{Name, read, bin, un, fill, given, counts, full, partial, sizes, Stmt, decl, print, if_, for_, continue_, Stmts, head, a_stmt, input}
+use Rattle.std.specs.Prelude.{ℕ, [], ◌∷◌, Some, pos, negsuc, codes}
+use Rattle.c_tree.specs.Bare.{Name, read, bin, un, fill, given, counts, partial, sizes, Stmt, decl, print, if_, for_, continue_, Stmts, head, a_stmt}
 use Rattle.c_tree.specs.declared.tree.Ty.TheVariants.{Int, Long}
 use Rattle.c_tree.specs.declared.tree.UnOp.TheVariants.{Neg}
-use Rattle.c_tree.specs.declared.tree.BinOp.TheVariants.{Add, Sub, Rem, Lt, Le, Gt, Ne, Eq}
+use Rattle.c_tree.specs.declared.tree.BinOp.TheVariants.{Add, Sub, Rem, Lt, Le, Ne, Eq}
 use Rattle.c_tree.specs.declared.tree.SetOp.TheVariants as assigned
 use Rattle.c_tree.specs.declared.tree.Kind.TheVariants.{Tile, Unroll, Reverse, Split}
 use Rattle.c_semantics.specs.Meaning.Arithmetic.{Overflow}
-use Rattle.c_semantics.specs.Meaning.Programs.{Ended, Stopped, CutOff}
+use Rattle.c_semantics.specs.Meaning.Programs.{Stopped, CutOff}
 use Rattle.c_semantics.specs.Examples.Notation.{int, long, exprs, list, only, assign, up, for_from, for_to, print_all, directed, in_main, unbounded, Does, Prints, nats, f, p, HasLoops}
 
 abbrev i : Name

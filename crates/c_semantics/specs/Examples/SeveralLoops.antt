@@ -1,6 +1,6 @@
 -- Worked examples: constructs over several loops, and directives on directives.
-use Rattle.std.specs.Prelude.{ℕ, [], ◌∷◌, Some, None, codes}
-use Rattle.c_tree.specs.Bare.{Name, read, bin, fill, given, counts, full, sizes, permutation, looprange, Stmt, decl, for_, block, Stmts, head, a_stmt}
+use Rattle.std.specs.Prelude.{ℕ, [], ◌∷◌, Some, codes}
+use Rattle.c_tree.specs.Bare.{Name, read, bin, fill, given, counts, sizes, permutation, looprange, Stmt, decl, for_, block, Stmts, head, a_stmt}
 use Rattle.c_tree.specs.declared.tree.Ty.TheVariants.{Int}
 use Rattle.c_tree.specs.declared.tree.BinOp.TheVariants.{Mul, Div, Add, Lt}
 use Rattle.c_tree.specs.declared.tree.Kind.TheVariants.{Tile, Interchange, Reverse, Split, Fuse}

@@ -1,13 +1,13 @@
 -- Worked examples: expressions, statements and traps, without directives.
-use Rattle.std.specs.Prelude.{◌≡◌, ℕ, [], ◌∷◌, Some, None, pos, negsuc, codes}
-use Rattle.c_tree.specs.Bare.{Name, Exprs, no_exprs, read, item, un, bin, cond, cast, target, Stmt, decl, print, input, while_, block, empty, Stmts, global, main, for_, head, a_stmt}
-use Rattle.c_tree.specs.declared.tree.Ty.TheVariants.{Int, Long}
+use Rattle.std.specs.Prelude.{◌≡◌, [], ◌∷◌, Some, None, pos, negsuc, codes}
+use Rattle.c_tree.specs.Bare.{Name, no_exprs, read, item, un, bin, cond, target, decl, print, input, while_, block, empty, Stmts, global, main, for_, head, a_stmt}
+use Rattle.c_tree.specs.declared.tree.Ty.TheVariants.{Int}
 use Rattle.c_tree.specs.declared.tree.UnOp.TheVariants.{Neg}
 use Rattle.c_tree.specs.declared.tree.BinOp.TheVariants.{Add, Div, Rem, Lt}
 use Rattle.c_tree.specs.declared.tree.SetOp.TheVariants as assigned
 use Rattle.c_semantics.specs.Meaning.State.{scalar}
 use Rattle.c_semantics.specs.Meaning.Arithmetic.{Overflow, DivideByZero, Unset, Narrow, Index, InputEnd}
-use Rattle.c_semantics.specs.Meaning.Programs.{Ended, Stopped, CutOff, Outcome, outcome}
+use Rattle.c_semantics.specs.Meaning.Programs.{Ended, Stopped, CutOff, outcome}
 use Rattle.c_semantics.specs.Examples.Notation.{int, long, exprs, list, only, assign, for_to, print_all, in_main, Does, Prints, Traps, nats}
 
 abbrev x : Name

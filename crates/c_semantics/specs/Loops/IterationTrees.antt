@@ -1,5 +1,5 @@
 -- The iterations of a loop nest in their order, as trees: what a construct runs.
-use Rattle.std.specs.Prelude.{ℕ, zero, suc, ◌+◌, ◌/◌, ◌%◌, min, List, [], ◌∷◌, ◌++◌, map, length, ℤ, get_or, if◌then◌else◌, ◌==◌}
+use Rattle.std.specs.Prelude.{ℕ, zero, suc, List, [], ◌∷◌, ◌++◌, map, length, ℤ, get_or, if◌then◌else◌, ◌==◌}
 
 mutual
   -- one run of a body, with the values of the affected loops' variables, outermost first; trees one after another; the

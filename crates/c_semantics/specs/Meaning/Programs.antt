@@ -1,12 +1,12 @@
 -- What a program does as a whole (C11 5.1.2.2.3, 6.7.9, 6.9): its file-scope variables at the start, then `main`.
 use Rattle.std.specs.Prelude.{ℕ, ◌*◌, List, [], ◌∷◌, ◌++◌, map, replicate, Option, Some, None, Bool, ℤ, pos, neg_ℤ, unwrap_or, if◌then◌else◌}
-use Rattle.c_tree.specs.Bare.{Name, Expr, Exprs, expr_list, Top, define, extern_, global, function, main, Program}
+use Rattle.c_tree.specs.Bare.{Name, Expr, expr_list, Top, define, global, function, main, Program}
 use Rattle.c_tree.specs.declared.tree.Ty.{Ty}
 use Rattle.c_semantics.specs.Meaning.State.{Cell, scalar, array, Var, State, with_globals}
 use Rattle.c_semantics.specs.Meaning.Arithmetic.{Trap}
 use Rattle.c_semantics.specs.Meaning.Expressions.{Define, constant}
 use Rattle.c_semantics.specs.Meaning.Runs.{End, Next, Trapped, Cut, Run, ends, in_block}
-use Rattle.c_semantics.specs.Meaning.SimpleStatements.{Function, Env}
+use Rattle.c_semantics.specs.Meaning.SimpleStatements.{Env}
 use Rattle.c_semantics.specs.Meaning.Statements.{exec_all}
 use Rattle.c_semantics.specs.Loops.Directives.{number}
 
