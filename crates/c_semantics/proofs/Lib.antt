@@ -1,0 +1,9 @@
+pub mod Invariant
+pub mod Grows
+pub mod Later
+pub mod Programs
+pub mod Evals
+pub mod Entries
+pub mod Simulation
+pub mod Apart
+pub mod Uses

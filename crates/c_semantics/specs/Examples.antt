@@ -1,0 +1,7 @@
+-- Worked examples of what programs do.
+pub mod Notation
+pub mod OneLoop
+pub mod SeveralLoops
+pub mod ApplyClause
+pub mod Statements
+pub mod Functions

@@ -1,0 +1,4 @@
+-- Laws of runs.
+pub mod Bounds
+pub mod Names
+pub mod Apart

@@ -1,0 +1,8 @@
+-- What expressions, statements and programs do.
+pub mod State
+pub mod Arithmetic
+pub mod Expressions
+pub mod Runs
+pub mod SimpleStatements
+pub mod Statements
+pub mod Programs

@@ -1,0 +1,3 @@
+-- The loops and the leaves of programs.
+pub mod Parts
+pub mod Skeleton

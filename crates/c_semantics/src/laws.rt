@@ -1,0 +1,25 @@
+//! Laws of runs.
+
+ghost use Rattle.c_semantics.specs.Laws.Bounds.{LinesGrow, OutcomeStays};
+ghost use Rattle.c_semantics.specs.Laws.Apart.{RunsWithoutGlobal, RunsWithoutLocal};
+
+/// An outcome that isn't cut off is the outcome at every greater bound, with the same turns of `for` loops.
+pub fn greater_bounds()
+    ensures { OutcomeStays }
+{}
+
+/// The lines at a bound begin the lines at every greater bound.
+pub fn lines_at_greater_bounds()
+    ensures { LinesGrow }
+{}
+
+/// Statements run alike with and without a variable of the innermost frame that they don't name.
+pub fn unnamed_variable()
+    ensures { RunsWithoutLocal }
+{}
+
+/// Statements run alike with and without a file-scope variable that they don't name, where the functions that they call
+/// run alike.
+pub fn unnamed_file_variable()
+    ensures { RunsWithoutGlobal }
+{}
