@@ -59,7 +59,7 @@ abbrev mutual
   forget_stmt (p.set t op e s) = b.set (forget_target t) op (forget_expr e)
   forget_stmt (p.step t up s) = b.step (forget_target t) up
   forget_stmt (p.print e s) = b.print (forget_expr e)
-  forget_stmt (p.input t s) = b.input (forget_target t)
+  forget_stmt (p.input t at s) = b.input (forget_target t)
   forget_stmt (p.if_ e ss s) = b.if_ (forget_expr e) (forget_stmts ss)
   forget_stmt (p.if_else e ss ts s) = b.if_else (forget_expr e) (forget_stmts ss) (forget_stmts ts)
   forget_stmt (p.while_ e ss s) = b.while_ (forget_expr e) (forget_stmts ss)

@@ -1,5 +1,5 @@
 -- The tree with places: a program as the bare tree has it, with the span of each node, of each declared, defined or
--- called name, and with the three places of a `for` head. Rules that name a place go over it. The span of a node comes
+-- called name, and with the three places of a `for` head and that of the word `input`. Rules that name a place go over it. The span of a node comes
 -- last, and that of a name beside the name.
 use Rattle.std.specs.Prelude.{ℕ, List, [], ◌∷◌, Option, Bool}
 use Rattle.c_tree.specs.declared.tree.Span.{Span}
@@ -66,7 +66,7 @@ mutual
     set : Target → SetOp → Expr → Span → Stmt
     step : Target → Bool → Span → Stmt
     print : Expr → Span → Stmt
-    input : Target → Span → Stmt
+    input : Target → ℕ → Span → Stmt
     if_ : Expr → Stmts → Span → Stmt
     if_else : Expr → Stmts → Stmts → Span → Stmt
     while_ : Expr → Stmts → Span → Stmt
@@ -126,7 +126,7 @@ stmt_span (decl ty x at init s) = s
 stmt_span (set t op e s) = s
 stmt_span (step t up s) = s
 stmt_span (print e s) = s
-stmt_span (input t s) = s
+stmt_span (input t at s) = s
 stmt_span (if_ e ss s) = s
 stmt_span (if_else e ss ts s) = s
 stmt_span (while_ e ss s) = s

@@ -230,8 +230,13 @@ pub fn copy_stmt(alloc: Global, stmt: &Stmt) -> Result<Stmt, AllocError>
             value: copy_expr(alloc, value)?,
             span: *span,
         },
-        Stmt::Input { target, span } => Stmt::Input {
+        Stmt::Input {
+            target,
+            input_at,
+            span,
+        } => Stmt::Input {
             target: copy_target(alloc, target)?,
+            input_at: *input_at,
             span: *span,
         },
         Stmt::If {

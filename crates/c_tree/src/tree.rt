@@ -212,6 +212,8 @@ pub enum Stmt {
     },
     Input {
         target: Target,
+        /// Where the word `input` stands.
+        input_at: u64,
         span: Span,
     },
     If {
