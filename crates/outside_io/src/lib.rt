@@ -1,0 +1,13 @@
+//! What lies outside the program: sources of bytes, sinks for bytes and takers of pieces, each with
+//! the causes of its faults.
+#![tactic(auto)]
+
+pub mod memory_sinks;
+pub mod memory_sources;
+pub mod traits;
+pub mod writing;
+
+pub use memory_sinks::{CleanSink, MemSink};
+pub use memory_sources::{CleanSource, MemSource};
+pub use traits::{Got, Put, Sink, Source, Taker};
+pub use writing::{WriteFault, write_all};
