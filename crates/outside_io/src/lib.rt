@@ -4,10 +4,12 @@
 
 pub mod memory_sinks;
 pub mod memory_sources;
+pub mod reading;
 pub mod traits;
 pub mod writing;
 
 pub use memory_sinks::{CleanSink, MemSink};
 pub use memory_sources::{CleanSource, MemSource};
+pub use reading::{ReadEnd, read_pieces};
 pub use traits::{Got, Put, Sink, Source, Taker};
 pub use writing::{WriteFault, write_all};

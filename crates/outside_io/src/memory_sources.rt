@@ -46,7 +46,7 @@ impl Source for CleanSource {
     fn read(&mut self, buffer: &mut [u8]) -> Got
         ensures fits { FitsBuffer result buffer.new }
         ensures bytes { Consumes (Some self.old.left) (Some self.new.left) (given result buffer.new) }
-        ensures end { TellsEnd result buffer.new → self.old.left ≡ [] }
+        ensures end { TellsEnd result buffer.new → self.new.left ≡ [] }
         ensures never_failed { result ≢ Got.Failed }
         ensures amount { length (given result buffer.new) ≡ min self.old.most (min (length self.old.left) (length buffer.new)) }
         ensures most { self.new.most ≡ self.old.most }
@@ -114,7 +114,7 @@ impl Source for MemSource {
     fn read(&mut self, buffer: &mut [u8]) -> Got
         ensures fits { FitsBuffer result buffer.new }
         ensures bytes { Consumes (Some self.old.left) (Some self.new.left) (given result buffer.new) }
-        ensures end { TellsEnd result buffer.new → self.old.left ≡ [] }
+        ensures end { TellsEnd result buffer.new → self.new.left ≡ [] }
         ensures failed { result ≡ Got.Failed → Rose self.old.faults self.new.faults }
         ensures faults { self.old.faults ≤ self.new.faults }
 

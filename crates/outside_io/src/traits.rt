@@ -33,7 +33,7 @@ pub trait Source {
     fn read(&mut self, buffer: &mut [u8]) -> Got
         ensures fits { FitsBuffer result buffer.new }
         ensures bytes { Consumes (left self.old) (left self.new) (given result buffer.new) }
-        ensures end { TellsEnd result buffer.new → IsAtEnd (left self.old) }
+        ensures end { TellsEnd result buffer.new → IsAtEnd (left self.new) }
         ensures failed { result ≡ Got.Failed → Rose (faults self.old) (faults self.new) }
         ensures faults { faults self.old ≤ faults self.new };
 }
