@@ -1,6 +1,11 @@
--- What a call does to the bytes that a sink holds and that a source has left. `Consumes` and `IsAtEnd`, for sources, are std's.
-use Rattle.std.specs.Prelude.{◌≡◌, ℕ, List, ◌++◌, length, ⊤, Option, None, Some}
-use Rattle.std.specs.Io.KnownBytes.{Consumes}
+-- What a call does to the bytes that a source has left and that a sink holds, where those are told.
+use Rattle.std.specs.Prelude.{◌≡◌, ℕ, List, [], ◌++◌, length, ⊤, Option, None, Some}
+use Rattle.std.specs.Io.KnownBytes.{Consumes, IsAtEnd}
+
+-- a source is at its end, and what it told before it tells still
+abbrev pub TakesAll : Option (List ℕ) → Option (List ℕ) → Type 0
+TakesAll None new = IsAtEnd new
+TakesAll (Some text) new = new ≡ Some []
 
 -- told bytes are n at least, and lose the first n
 abbrev pub LosesFirst : Option (List ℕ) → Option (List ℕ) → ℕ → Type 0

@@ -2,7 +2,7 @@
 
 ghost use Rattle.std.specs.Prelude.{◌≡◌, ℕ, ◌+◌, ◌^◌, ◌<◌, ◌≤◌, List, length, take, vec_len, IfErr, IfOk, IfSome, IsErrOf, MatchResult, OnErr, OnOk};
 ghost use Rattle.std.specs.Io.KnownBytes.{Consumes, IsAtEnd, Keeps};
-ghost use Rattle.outside_io.specs.Bytes.{IsPrefix, LosesFirst};
+ghost use Rattle.outside_io.specs.Bytes.{IsPrefix, LosesFirst, TakesAll};
 ghost use Rattle.outside_io.specs.Faults.{Rose};
 ghost use Rattle.outside_io.specs.Taker.{Extends};
 ghost use Rattle.outside_io.specs.declared.reading.ReadEnd.TheVariants.{Memory};
@@ -50,7 +50,7 @@ pub fn read_pieces<S: Source, T: Taker>(
         × (T.count taker.new ≡ length bytes)
         × MatchResult result (λ _. IfSome (S.left source.old) (λ text. bytes ≡ text))
             (λ _. IfSome (S.left source.old) (IsPrefix bytes)) }
-    ensures end { OnOk result (IsAtEnd (S.left source.new)) }
+    ensures end { OnOk result (TakesAll (S.left source.old) (S.left source.new)) }
 
     // The causes of a refusal, but for want of memory.
     ensures read_fault { IsErrOf result ReadEnd.ReadFault → Rose (S.faults source.old) (S.faults source.new) }
@@ -74,6 +74,45 @@ pub fn read_pieces<S: Source, T: Taker>(
             return Err(ReadEnd::TooLong);
         }
         taker.take(&buffer[..count])?;
+    }
+}
+
+/// Reads the source to its end. The limits, the causes of a refusal and what is then gone from the
+/// source are those of [`read_pieces`].
+pub fn read_all<S: Source>(
+    alloc: Global,
+    source: &mut S,
+    limit: u64,
+) -> Result<Vec<u8>, ReadEnd>
+    requires { limit ≤ 2 ^ 32 }
+
+    // All that was left, to its end.
+    ensures whole { IfOk result (λ bytes. IfSome (S.left source.old) (λ text. bytes.items ≡ text)) }
+    ensures end { OnOk result (TakesAll (S.left source.old) (S.left source.new)) }
+    ensures within { IfOk result (λ bytes. vec_len bytes ≤ limit) }
+
+    // The causes of a refusal, but for want of memory.
+    ensures read_fault { IsErrOf result ReadEnd.ReadFault → Rose (S.faults source.old) (S.faults source.new) }
+    ensures too_long { IsErrOf result ReadEnd.TooLong → IfSome (S.left source.old) (λ text. limit < length text) }
+
+    // What was read is gone from the source.
+    ensures one_more { IsErrOf result ReadEnd.TooLong → LosesFirst (S.left source.old) (S.left source.new) (limit + 1) }
+    ensures at_most { (n : ℕ) × (n ≤ limit + 1) × LosesFirst (S.left source.old) (S.left source.new) n }
+    ensures faults { S.faults source.old ≤ S.faults source.new }
+{
+    let mut bytes = Vec::new(alloc);
+    read_pieces(source, limit, &mut bytes)?;
+    Ok(bytes)
+}
+
+/// A vector takes a text by holding its bytes.
+impl Taker for Vec<u8> {
+    ghost count = { vec_len };
+
+    ghost stands_for = { λ bytes text. bytes.items ≡ text };
+
+    fn take(&mut self, piece: &[u8]) -> Result<(), AllocError> {
+        self.extend_from_slice(piece)
     }
 }
 
