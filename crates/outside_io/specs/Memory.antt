@@ -1,0 +1,36 @@
+-- What contracts see of the sources and sinks in memory.
+use Rattle.std.specs.Prelude.{ℕ, List, Bool, Option, None, Some, if◌then◌else◌}
+
+-- the bytes that are still to come, and the most that one read gives
+pub record BytesToCome : Type 0 where
+  pub left : List ℕ
+  pub most : ℕ
+
+-- likewise, with the numbers of the reads that fail, and how many reads there were and how many failed
+pub record FailingBytesToCome : Type 0 where
+  pub left : List ℕ
+  pub most : ℕ
+  pub fails : List ℕ
+  pub calls : ℕ
+  pub faults : ℕ
+
+-- the bytes that are kept, how many there is room for, the most that one write takes, and whether one was past the room
+pub record BytesKept : Type 0 where
+  pub bytes : List ℕ
+  pub room : ℕ
+  pub most : ℕ
+  pub is_past : Bool
+
+-- what such a sink tells
+abbrev pub told : BytesKept → Option (List ℕ)
+told sink = if sink.is_past then None else Some sink.bytes
+
+-- the bytes that are held, how many there is room for, the most that one write takes, the numbers of the writes that fail,
+-- and how many writes there were and how many failed
+pub record FailingBytesKept : Type 0 where
+  pub bytes : List ℕ
+  pub room : ℕ
+  pub most : ℕ
+  pub fails : List ℕ
+  pub calls : ℕ
+  pub faults : ℕ
