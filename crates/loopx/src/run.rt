@@ -1,11 +1,11 @@
 //! The top call: reads the source, translates it, and tells the answer.
 
-ghost use Rattle.std.specs.Prelude.{◌≡◌, ◌≢◌, ◌⊎◌, ◌≤◌, IfSome, IfOk, IfErr, IsErrOf, OnOk};
-ghost use Rattle.std.specs.Io.KnownBytes.{IsAtEnd};
-ghost use Rattle.outside_io.specs.Bytes.{Gains, GainsPrefix};
+ghost use Rattle.std.specs.Prelude.{◌≡◌, ◌≢◌, ◌⊎◌, ◌≤◌, IfSome, IfOk, IfErr, IsErrOf, OnOk, map, string_bytes};
+ghost use Rattle.outside_io.specs.Bytes.{Gains, GainsPrefix, TakesAll};
 ghost use Rattle.outside_io.specs.Faults.{Rose};
 ghost use Rattle.loopx.specs.Answer.{FitsText, GainsTranslation, GainsPart};
-ghost use Rattle.loopx.specs.Status.{Status, diagnostic, status_of_end, status_of_refusal, IsRefusal};
+ghost use Rattle.loopx.specs.declared.status.Status.{Status};
+ghost use Rattle.loopx.specs.Status.{diagnostic, status_of_end, status_of_refusal, IsRefusal};
 ghost use Rattle.translator.specs.Answer.{IsTranslation};
 ghost use Rattle.loopx.specs.Words.{IsTranslate};
 
@@ -60,8 +60,8 @@ fn translation<S: Source>(alloc: Global, source: &mut S) -> Result<Vec<u8>, Stat
     ensures refused { IfErr result (λ status. IfSome (S.left source.old) (FitsText status)) }
     ensures possible { IfErr result IsRefusal }
     ensures read_fault { IsErrOf result Status.ReadFault → Rose (S.faults source.old) (S.faults source.new) }
-    ensures whole { OnOk result (IsAtEnd (S.left source.new)) }
-    ensures refused_whole { IsErrOf result Status.Refused → IsAtEnd (S.left source.new) }
+    ensures whole { OnOk result (TakesAll (S.left source.old) (S.left source.new)) }
+    ensures refused_whole { IsErrOf result Status.Refused → TakesAll (S.left source.old) (S.left source.new) }
     ensures faults { S.faults source.old ≤ S.faults source.new }
 {
     let text = match read_all(alloc, source, GREATEST_LENGTH) {
@@ -88,15 +88,15 @@ pub fn run<S: Source, O: Sink, E: Sink>(
     diag: &mut E,
 ) -> Status
     // Words outside the list: nothing is read or written but the usage line, and no memory is taken.
-    ensures usage { result ≡ Status.Usage → IsTranslate words.now → ⊥ }
-    ensures only_usage { (IsTranslate words.now → ⊥) → (result ≡ Status.Usage) ⊎ (result ≡ Status.WriteFault) }
-    ensures unread { (IsTranslate words.now → ⊥) → (source.new ≡ source.old) × (out.new ≡ out.old) }
+    ensures usage { result ≡ Status.Usage → IsTranslate (map string_bytes words.now) → ⊥ }
+    ensures only_usage { (IsTranslate (map string_bytes words.now) → ⊥) → (result ≡ Status.Usage) ⊎ (result ≡ Status.WriteFault) }
+    ensures unread { (IsTranslate (map string_bytes words.now) → ⊥) → (source.new ≡ source.old) × (out.new ≡ out.old) }
 
     // The causes of the other answers.
     ensures read_fault { result ≡ Status.ReadFault → Rose (S.faults source.old) (S.faults source.new) }
     ensures write_fault { result ≡ Status.WriteFault → Rose (O.faults out.old) (O.faults out.new) ⊎ Rose (E.faults diag.old) (E.faults diag.new) }
     ensures text { IfSome (S.left source.old) (FitsText result) }
-    ensures read_whole { (result ≡ Status.Done) ⊎ (result ≡ Status.Refused) → IsAtEnd (S.left source.new) }
+    ensures read_whole { (result ≡ Status.Done) ⊎ (result ≡ Status.Refused) → TakesAll (S.left source.old) (S.left source.new) }
 
     // What is written: the whole translation at Done, else nothing but a part of it where a write failed.
     ensures done { result ≡ Status.Done → IfSome (S.left source.old) (GainsTranslation (O.held out.old) (O.held out.new)) }

@@ -1,6 +1,6 @@
 //! The words of the command line, and which command they name.
 
-ghost use Rattle.std.specs.Prelude.{IsTrue, ◌↔◌};
+ghost use Rattle.std.specs.Prelude.{IsTrue, ◌↔◌, map, string_bytes, codes, ◌≡◌};
 ghost use Rattle.loopx.specs.Words.{IsTranslate};
 
 use std::env;
@@ -26,12 +26,19 @@ pub fn program_words<R: Env + AllocGlobal>(rt: &R) -> Result<Vec<String>, u8> {
     }
 }
 
+/// Is the word `translate`?
+fn names_translate(word: &String) -> bool
+    ensures { IsTrue result ↔ (string_bytes word.now ≡ codes "translate") }
+{
+    word.as_str() == "translate"
+}
+
 /// Are the words the one word `translate`?
 pub fn is_translate(words: &[String]) -> bool
-    ensures { IsTrue result ↔ IsTranslate words.now }
+    ensures { IsTrue result ↔ IsTranslate (map string_bytes words.now) }
 {
     match words {
-        [word] => word.as_str() == "translate",
+        [word] => names_translate(word),
         _ => false,
     }
 }

@@ -1,6 +1,5 @@
 -- The digits at the front are those of the number.
-use Rattle.std.proofs.Common.{◌≡◌, ◌++◌, ◌<◌, ◌^◌, length, take, drop, arith, Some, None, sym, ◌∙◌}
-use Rattle.std.specs.Fmt.{decimal}
+use Rattle.std.proofs.Common.{◌≡◌, arith, Some}
 use Rattle.translator.proofs.Digits.{cut_after_decimal}
 use Rattle.translator.proofs.first_text.bound.Goals as goal
 
