@@ -2,11 +2,12 @@
 //! the causes of its faults.
 #![tactic(auto)]
 
-pub mod copying;
 pub mod memory_sinks;
 pub mod memory_sources;
 pub mod reading;
 pub mod std_streams;
+#[cfg(test)]
+mod tests;
 pub mod traits;
 pub mod writing;
 
