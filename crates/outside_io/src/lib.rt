@@ -1,5 +1,5 @@
-//! What lies outside the program: sources of bytes, sinks for bytes and takers of pieces, each with
-//! the causes of its faults.
+//! What lies outside the program: sources of bytes, sinks for bytes and takers of pieces, each
+//! with the causes of its faults.
 #![tactic(auto)]
 
 pub mod memory_sinks;

@@ -28,15 +28,20 @@ fn copy<S: Source, K: Sink>(alloc: Global, source: &mut S, limit: u64, sink: &mu
     ensures copied { result ≡ Copied.Whole
         → IfSome (S.left source.old) (Gains (K.held sink.old) (K.held sink.new)) }
     ensures taken { result ≡ Copied.Whole → TakesAll (S.left source.old) (S.left source.new) }
-    ensures fits { result ≡ Copied.Whole → IfSome (S.left source.old) (λ text. length text ≤ limit) }
+    ensures fits { result ≡ Copied.Whole
+        → IfSome (S.left source.old) (λ text. length text ≤ limit) }
 
-    ensures read_fault { result ≡ Copied.ReadFault → Rose (S.faults source.old) (S.faults source.new) }
-    ensures too_long { result ≡ Copied.TooLong → IfSome (S.left source.old) (λ text. limit < length text) }
-    ensures write_fault { result ≡ Copied.WriteFault → Rose (K.faults sink.old) (K.faults sink.new) }
+    ensures read_fault { result ≡ Copied.ReadFault
+        → Rose (S.faults source.old) (S.faults source.new) }
+    ensures too_long { result ≡ Copied.TooLong
+        → IfSome (S.left source.old) (λ text. limit < length text) }
+    ensures write_fault { result ≡ Copied.WriteFault
+        → Rose (K.faults sink.old) (K.faults sink.new) }
 
     ensures part { result ≡ Copied.WriteFault
         → IfSome (S.left source.old) (GainsPrefix (K.held sink.old) (K.held sink.new)) }
-    ensures untouched { result ≢ Copied.Whole → result ≢ Copied.WriteFault → K.held sink.new ≡ K.held sink.old }
+    ensures untouched { result ≢ Copied.Whole → result ≢ Copied.WriteFault
+        → K.held sink.new ≡ K.held sink.old }
 {
     let bytes = match read_all(alloc, source, limit) {
         Ok(bytes) => bytes,
@@ -64,7 +69,10 @@ fn copies_a_source_to_a_sink(rt: HostRuntime) -> Result<(), Fail> {
     let text = b"0123456789";
     let mut source = CleanSource::new(text.to_vec(rt.alloc())?, 3);
     let mut sink = CleanSink::new(rt.alloc(), 10, 4)?;
-    assert_eq!(rt; copy_clean(rt.alloc(), &mut source, &mut sink), Copied::Whole);
+    assert_eq!(rt;
+        copy_clean(rt.alloc(), &mut source, &mut sink),
+        Copied::Whole
+    );
     assert_eq!(rt; sink.bytes(), text.as_slice());
 
     let mut source = MemSource::new(text.to_vec(rt.alloc())?, 3, Vec::new(rt.alloc()));

@@ -21,7 +21,11 @@ fn fails_exactly_at_the_numbers_given(rt: HostRuntime) -> Result<(), Fail> {
         let text = b"0123456789".to_vec(rt.alloc())?;
         let fails = [number].to_vec(rt.alloc())?;
         let mut source = MemSource::new(text, 3, fails);
-        assert_eq!(rt; read_all(rt.alloc(), &mut source, 10), Err(ReadEnd::ReadFault), "at {number}");
+        assert_eq!(rt;
+            read_all(rt.alloc(), &mut source, 10),
+            Err(ReadEnd::ReadFault),
+            "at {number}"
+        );
         let rest_read = read_all(rt.alloc(), &mut source, 10)?;
         assert_eq!(rt; rest_read.as_slice(), rest.as_bytes(), "after {number}");
     }
@@ -107,8 +111,8 @@ fn hands_pieces_on_while_they_fit(rt: HostRuntime) -> Result<(), Fail> {
     Ok(())
 }
 
-/// A source that fills each buffer until it has given `left` of them, and then answers that it gave no
-/// byte. It counts the bytes that it was asked for, and tells nothing of those to come.
+/// A source that fills each buffer until it has given `left` of them, and then answers that it
+/// gave no byte. It counts the bytes that it was asked for, and tells nothing of those to come.
 #[derive(Drop)]
 struct Buffers {
     left: u64,
@@ -148,7 +152,11 @@ fn asks_for_no_more_than_it_may(rt: HostRuntime) -> Result<(), Fail> {
         };
         let got = read_all(rt.alloc(), &mut source, limit);
         assert_eq!(rt; got.err(), end, "at {limit}");
-        assert_eq!(rt; (source.asked, source.longest), (asked, longest), "at {limit}");
+        assert_eq!(rt;
+            (source.asked, source.longest),
+            (asked, longest),
+            "at {limit}"
+        );
     }
     Ok(())
 }

@@ -30,11 +30,20 @@ impl Write for Broken {
 #[test]
 fn reads_a_reader(rt: HostRuntime) -> Result<(), Fail> {
     let mut source = StdSource::new(b"0123456789".as_slice());
-    assert_eq!(rt; read_all(rt.alloc(), &mut source, 4).err(), Some(ReadEnd::TooLong));
-    assert_eq!(rt; read_all(rt.alloc(), &mut source, 5)?.as_slice(), b"56789".as_slice());
+    assert_eq!(rt;
+        read_all(rt.alloc(), &mut source, 4).err(),
+        Some(ReadEnd::TooLong)
+    );
+    assert_eq!(rt;
+        read_all(rt.alloc(), &mut source, 5)?.as_slice(),
+        b"56789".as_slice()
+    );
 
     let mut source = StdSource::new(Broken);
-    assert_eq!(rt; read_all(rt.alloc(), &mut source, 4).err(), Some(ReadEnd::ReadFault));
+    assert_eq!(rt;
+        read_all(rt.alloc(), &mut source, 4).err(),
+        Some(ReadEnd::ReadFault)
+    );
     Ok(())
 }
 

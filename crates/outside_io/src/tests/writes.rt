@@ -30,7 +30,11 @@ fn a_write_past_the_room_is_a_fault(rt: HostRuntime) -> Result<(), Fail> {
         (0, Err(WriteFault), ""),
     ] {
         let mut sink = MemSink::new(rt.alloc(), room, 5, Vec::new(rt.alloc()))?;
-        assert_eq!(rt; write_all(&mut sink, b"0123456789ab"), whole, "with room {room}");
+        assert_eq!(rt;
+            write_all(&mut sink, b"0123456789ab"),
+            whole,
+            "with room {room}"
+        );
         assert_eq!(rt; sink.bytes(), held.as_bytes(), "with room {room}");
         assert_eq!(rt; write_all(&mut sink, b""), Ok(()), "with room {room}");
     }
@@ -39,9 +43,18 @@ fn a_write_past_the_room_is_a_fault(rt: HostRuntime) -> Result<(), Fail> {
 
 #[test]
 fn a_clean_sink_keeps_the_first_bytes(rt: HostRuntime) -> Result<(), Fail> {
-    for (room, kept) in [(12, "0123456789ab"), (11, "0123456789a"), (7, "0123456"), (0, "")] {
+    for (room, kept) in [
+        (12, "0123456789ab"),
+        (11, "0123456789a"),
+        (7, "0123456"),
+        (0, ""),
+    ] {
         let mut sink = CleanSink::new(rt.alloc(), room, 5)?;
-        assert_eq!(rt; write_all(&mut sink, b"0123456789ab"), Ok(()), "with room {room}");
+        assert_eq!(rt;
+            write_all(&mut sink, b"0123456789ab"),
+            Ok(()),
+            "with room {room}"
+        );
         assert_eq!(rt; sink.bytes(), kept.as_bytes(), "with room {room}");
     }
     Ok(())

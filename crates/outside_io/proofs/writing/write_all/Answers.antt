@@ -10,6 +10,9 @@ pub loop-rest-preserved : goal.loop-rest-preserved
 loop-rest-preserved g c =
     let before = c.loop-rest.invariant in
     let count = c.in-Took.count in
-    let rest = c.loop-rest.rest.now in
-    (before.0 ++ take count rest, rw take_rest (append_split count _ before.0 rest before.1),
-    Gains-append _ _ _ before.0 _ before.2 c.in-Took.ensures.bytes, omega arith)
+    let rest = c.loop-rest.rest.now in (
+      before.0 ++ take count rest,
+      rw take_rest (append_split count _ before.0 rest before.1),
+      Gains-append _ _ _ before.0 _ before.2 c.in-Took.ensures.bytes,
+      omega arith,
+    )
