@@ -1,5 +1,5 @@
 -- What a sink holds over several writes.
-use Rattle.std.proofs.Common.{◌≡◌, ℕ, List, [], ◌++◌, Option, None, Some, refl, sym, ap, ◌∙◌, append_assoc, append-nil}
+use Rattle.std.proofs.Common.{ℕ, List, [], ◌++◌, Option, None, Some, refl, sym, ap, ◌∙◌, append_assoc, append-nil}
 use Rattle.outside_io.specs.Bytes.{Gains, GainsPrefix}
 
 pub Gains-nil : (a : Option (List ℕ)) → Gains a a []

@@ -1,4 +1,4 @@
-use Rattle.std.proofs.Common.{◌≡◌, ℕ, ◌+◌, ◌≤◌, arith, drop}
+use Rattle.std.proofs.Common.{◌≡◌, ℕ, ◌+◌, arith, drop}
 use Rattle.std.proofs.lemmas.List.{length-take}
 use Rattle.outside_io.proofs.ReadingSteps.{handed_more, length-piece, lost_more}
 use Rattle.outside_io.proofs.reading.read_pieces.Goals as goal

@@ -1,6 +1,5 @@
-use Rattle.std.proofs.Common.{◌≡◌, ◌≤◌, List, ◌++◌, take, drop, arith}
+use Rattle.std.proofs.Common.{◌++◌, take, arith}
 use Rattle.std.proofs.lemmas.List.{take_rest}
-use Rattle.outside_io.specs.Bytes.{Gains}
 use Rattle.outside_io.proofs.Pieces.{append_split}
 use Rattle.outside_io.proofs.SinkBytes.{Gains-append}
 use Rattle.outside_io.proofs.writing.write_all.Goals as goal
