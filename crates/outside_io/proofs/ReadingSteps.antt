@@ -1,5 +1,5 @@
 -- A reading piece by piece. A piece is the front of a buffer, which the read filled.
-use Rattle.std.proofs.Common.{◌≡◌, ℕ, ◌+◌, ◌≤◌, List, ◌++◌, take, length, length-append, Option, sym, ap, ◌∙◌, subst, append_assoc}
+use Rattle.std.proofs.Common.{◌≡◌, ℕ, ◌+◌, ◌≤◌, List, ◌++◌, take, length, length-append, Option, ap, ◌∙◌, subst, append_assoc}
 use Rattle.std.proofs.KnownBytes.{Consumes-trans}
 use Rattle.std.proofs.lemmas.List.{length-take-le, take-append-le}
 use Rattle.std.specs.Io.KnownBytes.{Consumes}
@@ -26,9 +26,11 @@ length-with_piece n total bytes filled fits count =
 pub lost_more : (old mid new : Option (List ℕ)) (stood stands : List ℕ → Type 0) (total n : ℕ) (filled : List ℕ)
     → n ≤ length filled → HandedSoFar old mid stood stands total → Consumes mid new (take n filled)
     → LosesFirst old new (total + n)
-lost_more old mid new stood stands total n filled fits so_far lost =
-    (so_far.bytes ++ take n filled, length-with_piece n total so_far.bytes filled fits so_far.count,
-    Consumes-trans old mid new so_far.bytes (take n filled) so_far.lost lost)
+lost_more old mid new stood stands total n filled fits so_far lost = (
+  so_far.bytes ++ take n filled,
+  length-with_piece n total so_far.bytes filled fits so_far.count,
+  Consumes-trans old mid new so_far.bytes (take n filled) so_far.lost lost,
+)
 
 -- the piece is handed on too
 pub handed_more : (old mid new : Option (List ℕ)) (stood between stands : List ℕ → Type 0) (total n : ℕ) (filled behind : List ℕ)
@@ -41,6 +43,6 @@ handed_more old mid new stood between stands total n filled behind fits so_far l
       count = length-with_piece n total so_far.bytes filled fits so_far.count;
       lost = Consumes-trans old mid new so_far.bytes piece so_far.lost lost;
       taken = λ before stood_for.
-        let same = ap (λ l. (before ++ so_far.bytes) ++ l) (take-append-le n filled behind fits) ∙ append_assoc before so_far.bytes piece in
-        subst stands same (taken (before ++ so_far.bytes) (so_far.taken before stood_for));
+          let same = ap (λ l. (before ++ so_far.bytes) ++ l) (take-append-le n filled behind fits) ∙ append_assoc before so_far.bytes piece in
+          subst stands same (taken (before ++ so_far.bytes) (so_far.taken before stood_for));
     }

@@ -1,12 +1,13 @@
 -- What contracts see of the sources and sinks in memory.
 use Rattle.std.specs.Prelude.{ℕ, List, Bool, Option, None, Some, if◌then◌else◌}
 
--- the bytes that are still to come, and the most that one read gives
+-- a source that never fails: the bytes still to come, and the most that one read gives
 pub record BytesToCome : Type 0 where
   pub left : List ℕ
   pub most : ℕ
 
--- likewise, with the numbers of the reads that fail, and how many reads there were and how many failed
+-- one that fails: likewise, with the numbers of the reads that fail,
+-- and how many reads there were and how many of them failed
 pub record FailingBytesToCome : Type 0 where
   pub left : List ℕ
   pub most : ℕ
@@ -14,7 +15,8 @@ pub record FailingBytesToCome : Type 0 where
   pub calls : ℕ
   pub faults : ℕ
 
--- the bytes that are kept, how many there is room for, the most that one write takes, and whether one was past the room
+-- a sink that never fails: the bytes that it keeps, how many it has room for,
+-- the most that one write takes, and whether a byte was past the room
 pub record BytesKept : Type 0 where
   pub bytes : List ℕ
   pub room : ℕ
@@ -22,11 +24,11 @@ pub record BytesKept : Type 0 where
   pub is_past : Bool
 
 -- what such a sink tells
-abbrev pub told : BytesKept → Option (List ℕ)
-told sink = if sink.is_past then None else Some sink.bytes
+abbrev pub told_bytes : BytesKept → Option (List ℕ)
+told_bytes sink = if sink.is_past then None else Some sink.bytes
 
--- the bytes that are held, how many there is room for, the most that one write takes, the numbers of the writes that fail,
--- and how many writes there were and how many failed
+-- one that fails: the bytes that it holds, how many it has room for, the most that one write takes,
+-- the numbers of the writes that fail, and how many writes there were and how many of them failed
 pub record FailingBytesKept : Type 0 where
   pub bytes : List ℕ
   pub room : ℕ

@@ -3,17 +3,17 @@ use Rattle.std.specs.Prelude.{◌≡◌, ℕ, ◌<◌, ◌≤◌, List, [], leng
 use Rattle.outside_io.specs.declared.traits.Got.{Got}
 use Rattle.outside_io.specs.declared.traits.Got.TheVariants.{Gave, End, Failed}
 
--- an answer that tells a number of bytes has them in the buffer
+-- a number of bytes is one that the buffer has room for
 abbrev pub FitsBuffer : Got → List ℕ → Type 0
 FitsBuffer (Gave n) buffer = n ≤ length buffer
 FitsBuffer End buffer = ⊤
 FitsBuffer Failed buffer = ⊤
 
--- the bytes that the read gave, the first ones of the buffer
-abbrev pub given : Got → List ℕ → List ℕ
-given (Gave n) buffer = take n buffer
-given End buffer = []
-given Failed buffer = []
+-- the bytes that the read gave: the first ones of the buffer
+abbrev pub given_bytes : Got → List ℕ → List ℕ
+given_bytes (Gave n) buffer = take n buffer
+given_bytes End buffer = []
+given_bytes Failed buffer = []
 
 -- the answer tells the end: `End`, or no byte where the buffer has room
 abbrev pub TellsEnd : Got → List ℕ → Type 0

@@ -1,12 +1,13 @@
-//! What lies outside the program: sources of bytes, sinks for bytes and takers of pieces, each with
-//! the causes of its faults.
+//! What lies outside the program: sources of bytes, sinks for bytes and takers of pieces, each
+//! with the causes of its faults.
 #![tactic(auto)]
 
-pub mod copying;
 pub mod memory_sinks;
 pub mod memory_sources;
 pub mod reading;
 pub mod std_streams;
+#[cfg(test)]
+mod tests;
 pub mod traits;
 pub mod writing;
 

@@ -1,21 +1,21 @@
 //! Sinks in memory, which take their room when they are made: one that never fails, and one whose
 //! writes fail as its maker says.
 
-ghost use Rattle.std.specs.Prelude.{◌≡◌, ◌≢◌, ◌+◌, ◌-◌, ◌<◌, ◌≤◌, ◌++◌, ◌↔◌, ◌⊎◌, [], Some, Contains, IfOk, IsTrue, false, length, min, take};
+ghost use Rattle.std.specs.Prelude.{◌≡◌, ◌≢◌, ◌+◌, ◌<◌, ◌≤◌, ◌++◌, ◌↔◌, ◌⊎◌, [], Some, Contains, IfOk, IsTrue, false, length, min, take};
 ghost use Rattle.outside_io.specs.Bytes.{Gains};
-ghost use Rattle.outside_io.specs.Faults.{Rose, raised};
-ghost use Rattle.outside_io.specs.Memory.{told};
-ghost use Rattle.outside_io.specs.Sink.{FitsPiece, taken};
+ghost use Rattle.outside_io.specs.Faults.{Rose, raised_count};
+ghost use Rattle.outside_io.specs.Memory.{told_bytes};
+ghost use Rattle.outside_io.specs.Sink.{FitsPiece, taken_bytes};
 
 use super::traits::{Put, Sink};
 use std::alloc::{AllocError, Global};
 use std::marker::Model;
 
 /// A sink in memory that takes every write. It keeps the first bytes, as many as it has room for,
-/// and from the first byte past them no longer tells what it holds.
+/// and from the first byte past them on it no longer tells what it holds.
 ///
-/// Contracts see the `bytes` that it keeps, its `room`, the `most` that one write takes, and whether
-/// it `is_past` its room.
+/// Contracts see the `bytes` that it keeps, its `room`, the `most` that one write takes, and
+/// whether it `is_past` its room.
 #[derive(Drop)]
 pub struct CleanSink {
     bytes: Vec<u8>,
@@ -30,9 +30,15 @@ impl Model for CleanSink {
 
     ghost Value = { BytesKept };
 
-    ghost view = { λ s. record { bytes = s.bytes.items; room = s.room; most = s.most; is_past = s.is_past } };
+    ghost view = { λ s. record {
+      bytes = s.bytes.items;
+      room = s.room;
+      most = s.most;
+      is_past = s.is_past;
+    } };
 
-    ghost invariant = { λ s. (vec_len s.bytes ≤ s.room) × (s.room ≤ vec_capacity s.bytes) × (1 ≤ s.most) };
+    ghost invariant = { λ s.
+        (vec_len s.bytes ≤ s.room) × (s.room ≤ vec_capacity s.bytes) × (1 ≤ s.most) };
 }
 
 impl CleanSink {
@@ -61,24 +67,27 @@ impl CleanSink {
 }
 
 impl Sink for CleanSink {
-    ghost held = { told };
+    ghost held = { told_bytes };
 
     ghost faults = { λ _. 0 };
 
     fn write(&mut self, piece: &[u8]) -> Put
         ensures fits { FitsPiece result piece.now }
-        ensures bytes { Gains (told self.old) (told self.new) (taken result piece.now) }
+        ensures bytes { Gains (told_bytes self.old) (told_bytes self.new)
+            (taken_bytes result piece.now) }
         ensures took { result ≡ Put.Took (min self.old.most (length piece.now)) }
 
         // It keeps the first bytes of all that it took, and tells whether there were more.
-        ensures kept { self.new.bytes ≡ take self.old.room (self.old.bytes ++ taken result piece.now) }
-        ensures past { IsTrue self.new.is_past
-            ↔ (IsTrue self.old.is_past ⊎ (self.old.room < length self.old.bytes + length (taken result piece.now))) }
+        ensures kept { self.new.bytes
+            ≡ take self.old.room (self.old.bytes ++ taken_bytes result piece.now) }
+        ensures past { IsTrue self.new.is_past ↔ (IsTrue self.old.is_past
+            ⊎ (self.old.room < length self.old.bytes + length (taken_bytes result piece.now))) }
         ensures room { self.new.room ≡ self.old.room }
         ensures most { self.new.most ≡ self.old.most }
     {
         let count = self.most.min(piece.len());
         let stored = count.min(self.room - self.bytes.len());
+        // The room was taken when the sink was made.
         self.bytes.extend_from_slice(&piece[..stored]).unwrap();
         if stored < count {
             self.is_past = true;
@@ -87,12 +96,12 @@ impl Sink for CleanSink {
     }
 }
 
-/// A sink in memory whose writes with given numbers fail, and each write that would take more bytes
-/// than are free.
+/// A sink in memory whose writes with given numbers fail, and each write that would take more
+/// bytes than are free. A write that fails takes nothing.
 ///
-/// Contracts see the `bytes` that it holds, its `room`, the `most` that one write takes, the numbers
-/// that fail, and how many `calls` there were and how many `faults`: two counts that stand still at
-/// their greatest value.
+/// Contracts see the `bytes` that it holds, its `room`, the `most` that one write takes, the
+/// numbers of the writes that fail, and how many `calls` there were and how many `faults`. These
+/// two counts stand still at their greatest value, 2^64 - 1.
 #[derive(Drop)]
 pub struct MemSink {
     bytes: Vec<u8>,
@@ -118,12 +127,13 @@ impl Model for MemSink {
       faults = s.faults;
     } };
 
-    ghost invariant = { λ s. (vec_len s.bytes ≤ s.room) × (s.room ≤ vec_capacity s.bytes) × (1 ≤ s.most) };
+    ghost invariant = { λ s.
+        (vec_len s.bytes ≤ s.room) × (s.room ≤ vec_capacity s.bytes) × (1 ≤ s.most) };
 }
 
 impl MemSink {
-    /// An empty sink with room for `room` bytes that takes at most `most` bytes in one write. Writes
-    /// are numbered from 1, and those whose number is in `fails` fail.
+    /// An empty sink with room for `room` bytes that takes at most `most` bytes in one write.
+    /// Writes are numbered from 1, and those whose number is in `fails` fail.
     pub fn new(
         alloc: Global,
         room: usize,
@@ -163,17 +173,19 @@ impl Sink for MemSink {
 
     fn write(&mut self, piece: &[u8]) -> Put
         ensures fits { FitsPiece result piece.now }
-        ensures bytes { Gains (Some self.old.bytes) (Some self.new.bytes) (taken result piece.now) }
+        ensures bytes { Gains (Some self.old.bytes) (Some self.new.bytes)
+            (taken_bytes result piece.now) }
         ensures failed { result ≡ Put.Failed → Rose self.old.faults self.new.faults }
         ensures faults { self.old.faults ≤ self.new.faults }
 
-        // It fails exactly at the numbers that its maker gave and where there is no room, and else
-        // takes as much as it may.
-        ensures number { self.new.calls ≡ raised self.old.calls }
+        // It fails exactly at the numbers that its maker gave and where there is no room, and
+        // else takes as much as it may.
+        ensures number { self.new.calls ≡ raised_count self.old.calls }
         ensures fails { (result ≡ Put.Failed) ↔ (Contains self.old.fails self.new.calls
             ⊎ (self.old.room < length self.old.bytes + min self.old.most (length piece.now))) }
-        ensures took { result ≢ Put.Failed → result ≡ Put.Took (min self.old.most (length piece.now)) }
-        ensures counted { result ≡ Put.Failed → self.new.faults ≡ raised self.old.faults }
+        ensures took { result ≢ Put.Failed
+            → result ≡ Put.Took (min self.old.most (length piece.now)) }
+        ensures counted { result ≡ Put.Failed → self.new.faults ≡ raised_count self.old.faults }
         ensures not_counted { result ≢ Put.Failed → self.new.faults ≡ self.old.faults }
         ensures room { self.new.room ≡ self.old.room }
         ensures most { self.new.most ≡ self.old.most }
@@ -185,6 +197,7 @@ impl Sink for MemSink {
             self.faults = self.faults.saturating_add(1);
             return Put::Failed;
         }
+        // The room was taken when the sink was made.
         self.bytes.extend_from_slice(&piece[..count]).unwrap();
         Put::Took(count)
     }

@@ -1,14 +1,16 @@
 //! Sources in memory: one that never fails, and one whose reads fail as its maker says.
 
 ghost use Rattle.std.specs.Prelude.{◌≡◌, ◌≢◌, ◌≤◌, ◌↔◌, [], Some, Contains, length, min, take};
-ghost use Rattle.std.specs.Io.KnownBytes.{Consumes, IsAtEnd};
-ghost use Rattle.outside_io.specs.Faults.{Rose, raised};
-ghost use Rattle.outside_io.specs.Source.{FitsBuffer, given, TellsEnd};
+ghost use Rattle.std.specs.Io.KnownBytes.{Consumes};
+ghost use Rattle.outside_io.specs.Faults.{Rose, raised_count};
+ghost use Rattle.outside_io.specs.Source.{FitsBuffer, given_bytes, TellsEnd};
 
 use super::traits::{Got, Source};
 use std::marker::Model;
 
-/// A source in memory that never fails. Contracts see what is `left` and the `most` that one read gives.
+/// A source in memory that never fails.
+///
+/// Contracts see the bytes that are `left`, and the `most` that one read gives.
 #[derive(Drop)]
 pub struct CleanSource {
     bytes: Vec<u8>,
@@ -45,10 +47,14 @@ impl Source for CleanSource {
 
     fn read(&mut self, buffer: &mut [u8]) -> Got
         ensures fits { FitsBuffer result buffer.new }
-        ensures bytes { Consumes (Some self.old.left) (Some self.new.left) (given result buffer.new) }
+        ensures bytes { Consumes (Some self.old.left) (Some self.new.left)
+            (given_bytes result buffer.new) }
         ensures end { TellsEnd result buffer.new → self.new.left ≡ [] }
+
+        // It never fails, and gives as much as it may.
         ensures never_failed { result ≢ Got.Failed }
-        ensures amount { length (given result buffer.new) ≡ min self.old.most (min (length self.old.left) (length buffer.new)) }
+        ensures amount { length (given_bytes result buffer.new)
+            ≡ min self.old.most (min (length self.old.left) (length buffer.new)) }
         ensures most { self.new.most ≡ self.old.most }
     {
         let rest = &self.bytes[self.at..];
@@ -61,9 +67,11 @@ impl Source for CleanSource {
     }
 }
 
-/// A source in memory whose reads with given numbers fail. Contracts see what is `left`, the `most` that one read gives,
-/// the numbers that fail, and how many `calls` there were and how many `faults`: two counts that stand still at their
-/// greatest value.
+/// A source in memory whose reads with given numbers fail.
+///
+/// Contracts see the bytes that are `left`, the `most` that one read gives, the numbers of the
+/// reads that fail, and how many `calls` there were and how many `faults`. These two counts stand
+/// still at their greatest value, 2^64 - 1.
 #[derive(Drop)]
 pub struct MemSource {
     source: CleanSource,
@@ -87,8 +95,8 @@ impl Model for MemSource {
 }
 
 impl MemSource {
-    /// A source of these bytes that gives at most `most` of them in one read. Reads are numbered from 1, and those whose
-    /// number is in `fails` fail.
+    /// A source of these bytes that gives at most `most` of them in one read. Reads are numbered
+    /// from 1, and those whose number is in `fails` fail.
     pub fn new(bytes: Vec<u8>, most: usize, fails: Vec<u64>) -> MemSource
         requires { 1 ≤ most }
         ensures left { result.left ≡ bytes.items }
@@ -113,17 +121,18 @@ impl Source for MemSource {
 
     fn read(&mut self, buffer: &mut [u8]) -> Got
         ensures fits { FitsBuffer result buffer.new }
-        ensures bytes { Consumes (Some self.old.left) (Some self.new.left) (given result buffer.new) }
+        ensures bytes { Consumes (Some self.old.left) (Some self.new.left)
+            (given_bytes result buffer.new) }
         ensures end { TellsEnd result buffer.new → self.new.left ≡ [] }
         ensures failed { result ≡ Got.Failed → Rose self.old.faults self.new.faults }
         ensures faults { self.old.faults ≤ self.new.faults }
 
         // It fails exactly at the numbers that its maker gave, and else gives as much as it may.
-        ensures number { self.new.calls ≡ raised self.old.calls }
+        ensures number { self.new.calls ≡ raised_count self.old.calls }
         ensures fails { (result ≡ Got.Failed) ↔ Contains self.old.fails self.new.calls }
-        ensures amount { result ≢ Got.Failed
-            → length (given result buffer.new) ≡ min self.old.most (min (length self.old.left) (length buffer.new)) }
-        ensures counted { result ≡ Got.Failed → self.new.faults ≡ raised self.old.faults }
+        ensures amount { result ≢ Got.Failed → length (given_bytes result buffer.new)
+            ≡ min self.old.most (min (length self.old.left) (length buffer.new)) }
+        ensures counted { result ≡ Got.Failed → self.new.faults ≡ raised_count self.old.faults }
         ensures not_counted { result ≢ Got.Failed → self.new.faults ≡ self.old.faults }
         ensures most { self.new.most ≡ self.old.most }
         ensures same_fails { self.new.fails ≡ self.old.fails }
@@ -137,7 +146,8 @@ impl Source for MemSource {
     }
 }
 
-/// Copies the first bytes into the front of the buffer: `most` of them, or as many as there are or the buffer has room for.
+/// Copies the first bytes into the front of the buffer, and answers how many: `most`, or as many
+/// as there are or the buffer has room for.
 fn copy_front(bytes: &[u8], most: usize, buffer: &mut [u8]) -> usize
     ensures amount { result ≡ min most (min (length bytes.now) (length buffer.new)) }
     ensures copied { take result buffer.new ≡ take result bytes.now }

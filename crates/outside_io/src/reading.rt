@@ -4,7 +4,7 @@ ghost use Rattle.std.specs.Prelude.{◌≡◌, ℕ, ◌+◌, ◌^◌, ◌<◌, �
 ghost use Rattle.std.specs.Io.KnownBytes.{Consumes, IsAtEnd, Keeps};
 ghost use Rattle.outside_io.specs.Bytes.{IsPrefix, LosesFirst, TakesAll};
 ghost use Rattle.outside_io.specs.Faults.{Rose};
-ghost use Rattle.outside_io.specs.Taker.{Extends};
+ghost use Rattle.outside_io.specs.Taker.{IsHanded};
 ghost use Rattle.outside_io.specs.declared.reading.ReadEnd.TheVariants.{Memory};
 
 use super::traits::{Got, Source, Taker};
@@ -34,8 +34,8 @@ const PIECE: usize = 4096;
 
 /// Reads the source to its end and hands what it gives to the taker, in pieces.
 ///
-/// It reads at most 4096 bytes at a time and `limit + 1` in all, and hands a piece on only while the
-/// total is at most the limit. After a refusal the taker has what was handed on before it.
+/// It reads at most 4096 bytes at a time and `limit + 1` in all, and hands a piece on only while
+/// the total is at most the limit. After a refusal the taker has what was handed on before it.
 pub fn read_pieces<S: Source, T: Taker>(
     source: &mut S,
     limit: u64,
@@ -45,20 +45,23 @@ pub fn read_pieces<S: Source, T: Taker>(
     requires fresh { T.count taker.old ≡ 0 }
 
     // The taker has all that was left, or after a refusal a first part of it.
-    ensures handed { (bytes : List ℕ) × (length bytes ≤ limit)
-        × Extends (T.stands_for taker.old) (T.stands_for taker.new) bytes
-        × (T.count taker.new ≡ length bytes)
+    ensures handed { (bytes : List ℕ)
+        × IsHanded limit (T.stands_for taker.old) (T.stands_for taker.new) (T.count taker.new) bytes
         × MatchResult result (λ _. IfSome (S.left source.old) (λ text. bytes ≡ text))
-            (λ _. IfSome (S.left source.old) (IsPrefix bytes)) }
+        (λ _. IfSome (S.left source.old) (IsPrefix bytes)) }
     ensures end { OnOk result (TakesAll (S.left source.old) (S.left source.new)) }
 
     // The causes of a refusal, but for want of memory.
-    ensures read_fault { IsErrOf result ReadEnd.ReadFault → Rose (S.faults source.old) (S.faults source.new) }
-    ensures too_long { IsErrOf result ReadEnd.TooLong → IfSome (S.left source.old) (λ text. limit < length text) }
+    ensures read_fault { IsErrOf result ReadEnd.ReadFault
+        → Rose (S.faults source.old) (S.faults source.new) }
+    ensures too_long { IsErrOf result ReadEnd.TooLong
+        → IfSome (S.left source.old) (λ text. limit < length text) }
 
     // What was read is gone from the source.
-    ensures one_more { IsErrOf result ReadEnd.TooLong → LosesFirst (S.left source.old) (S.left source.new) (limit + 1) }
-    ensures at_most { (n : ℕ) × (n ≤ limit + 1) × LosesFirst (S.left source.old) (S.left source.new) n }
+    ensures one_more { IsErrOf result ReadEnd.TooLong
+        → LosesFirst (S.left source.old) (S.left source.new) (limit + 1) }
+    ensures at_most { (n : ℕ) × (n ≤ limit + 1)
+        × LosesFirst (S.left source.old) (S.left source.new) n }
     ensures faults { S.faults source.old ≤ S.faults source.new }
 {
     let mut buffer = [0u8; PIECE];
@@ -77,13 +80,9 @@ pub fn read_pieces<S: Source, T: Taker>(
     }
 }
 
-/// Reads the source to its end. The limits, the causes of a refusal and what is then gone from the
-/// source are those of [`read_pieces`].
-pub fn read_all<S: Source>(
-    alloc: Global,
-    source: &mut S,
-    limit: u64,
-) -> Result<Vec<u8>, ReadEnd>
+/// Reads the source to its end. The limits, the causes of a refusal and what is then gone from
+/// the source are those of [`read_pieces`].
+pub fn read_all<S: Source>(alloc: Global, source: &mut S, limit: u64) -> Result<Vec<u8>, ReadEnd>
     requires { limit ≤ 2 ^ 32 }
 
     // All that was left, to its end.
@@ -92,12 +91,16 @@ pub fn read_all<S: Source>(
     ensures within { IfOk result (λ bytes. vec_len bytes ≤ limit) }
 
     // The causes of a refusal, but for want of memory.
-    ensures read_fault { IsErrOf result ReadEnd.ReadFault → Rose (S.faults source.old) (S.faults source.new) }
-    ensures too_long { IsErrOf result ReadEnd.TooLong → IfSome (S.left source.old) (λ text. limit < length text) }
+    ensures read_fault { IsErrOf result ReadEnd.ReadFault
+        → Rose (S.faults source.old) (S.faults source.new) }
+    ensures too_long { IsErrOf result ReadEnd.TooLong
+        → IfSome (S.left source.old) (λ text. limit < length text) }
 
     // What was read is gone from the source.
-    ensures one_more { IsErrOf result ReadEnd.TooLong → LosesFirst (S.left source.old) (S.left source.new) (limit + 1) }
-    ensures at_most { (n : ℕ) × (n ≤ limit + 1) × LosesFirst (S.left source.old) (S.left source.new) n }
+    ensures one_more { IsErrOf result ReadEnd.TooLong
+        → LosesFirst (S.left source.old) (S.left source.new) (limit + 1) }
+    ensures at_most { (n : ℕ) × (n ≤ limit + 1)
+        × LosesFirst (S.left source.old) (S.left source.new) n }
     ensures faults { S.faults source.old ≤ S.faults source.new }
 {
     let mut bytes = Vec::new(alloc);
@@ -120,7 +123,8 @@ impl Taker for Vec<u8> {
 fn read_piece<S: Source>(source: &mut S, buffer: &mut [u8]) -> Result<usize, ReadEnd>
     requires { 0 < length buffer.old }
     ensures fits { IfOk result (λ count. count ≤ length buffer.new) }
-    ensures bytes { IfOk result (λ count. Consumes (S.left source.old) (S.left source.new) (take count buffer.new)) }
+    ensures bytes { IfOk result
+        (λ count. Consumes (S.left source.old) (S.left source.new) (take count buffer.new)) }
     ensures end { IfOk result (λ count. count ≡ 0 → IsAtEnd (S.left source.new)) }
     ensures failed { OnErr result (Rose (S.faults source.old) (S.faults source.new)) }
     ensures kept { OnErr result (Keeps (S.left source.old) (S.left source.new)) }

@@ -1,13 +1,15 @@
-//! Sources and sinks over std's readers and writers: what the program reads and writes when it runs.
+//! Sources and sinks over std's readers and writers: what the program reads and writes when it
+//! runs.
 
 ghost use Rattle.std.specs.Prelude.{◌≡◌, None};
 
 use super::traits::{Got, Put, Sink, Source};
 use std::io::{Read, Write};
 
-/// A source over a reader of std. It tells what the reader tells of the bytes to come: nothing, over a
-/// terminal, a pipe or a file. Its count of faults is raised at each error, and stands still at its
-/// greatest value.
+/// A source over a reader of std. It tells of the bytes to come what the reader tells: nothing,
+/// over a terminal, a pipe or a file.
+///
+/// Its count of faults is raised at each error, and stands still at its greatest value, 2^64 - 1.
 #[derive(Drop)]
 pub struct StdSource<R> {
     reader: R,
@@ -40,9 +42,10 @@ impl<R: Read> Source for StdSource<R> {
     }
 }
 
-/// A sink over a writer of std. It tells nothing of what it took. Its count of faults is raised at each
-/// error and at each write that takes none of a piece that has bytes, and stands still at its greatest
-/// value.
+/// A sink over a writer of std. It tells nothing of what it took.
+///
+/// Its count of faults is raised at each error, and at each write that takes no byte of a piece
+/// that has some. It stands still at its greatest value, 2^64 - 1.
 #[derive(Drop)]
 pub struct StdSink<W> {
     writer: W,

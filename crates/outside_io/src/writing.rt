@@ -10,8 +10,8 @@ use super::traits::{Put, Sink};
 #[derive(Clone, Copy, Debug, PartialEq, Eq)]
 pub struct WriteFault;
 
-/// Writes the whole piece. A fault comes only where the sink had one in this call, and leaves a first
-/// part of the piece written. It takes no memory.
+/// Writes the whole piece. A fault comes only where the sink had one in this call, and leaves a
+/// first part of the piece written. It takes no memory.
 pub fn write_all<K: Sink>(sink: &mut K, piece: &[u8]) -> Result<(), WriteFault>
     ensures whole { OnOk result (Gains (K.held sink.old) (K.held sink.new) piece.now) }
     ensures part { OnErr result (GainsPrefix (K.held sink.old) (K.held sink.new) piece.now) }

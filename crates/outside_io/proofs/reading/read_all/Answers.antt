@@ -6,4 +6,4 @@ use Rattle.outside_io.proofs.reading.read_all.Goals as goal
 pub returns-clause-whole : goal.returns-clause-whole
 returns-clause-whole g c =
     let handed = c.in_ok-read_pieces.ensures.handed in
-    IfSome-same _ _ (λ text. c.read_pieces.new.taker.items ≡ text) handed.4 (handed.2 [] c.new-bytes.ensures.items)
+    IfSome-same _ _ (λ text. c.read_pieces.new.taker.items ≡ text) handed.2 (handed.1.taken [] c.new-bytes.ensures.items)

@@ -1,5 +1,4 @@
 -- What is left from the next place on is the bytes that the buffer got, and what is left behind them.
-use Rattle.std.proofs.Common.{◌≡◌}
 use Rattle.std.proofs.lemmas.List.{take_rest}
 use Rattle.outside_io.proofs.Pieces.{drop_split}
 use Rattle.outside_io.proofs.memory_sources.CleanSourceSource.read.Goals as goal
