@@ -8,4 +8,6 @@ pub mod items;
 pub mod laws;
 pub mod name;
 pub mod place;
+#[cfg(test)]
+mod tests;
 pub mod tree;
