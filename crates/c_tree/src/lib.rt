@@ -5,6 +5,9 @@ pub mod boxed;
 pub mod copy;
 pub mod height;
 pub mod items;
+pub mod laws;
 pub mod name;
 pub mod place;
+#[cfg(test)]
+mod tests;
 pub mod tree;
