@@ -7,3 +7,5 @@ pub mod Entries
 pub mod Simulation
 pub mod Apart
 pub mod Uses
+pub mod Depths
+pub mod LeastNeed

@@ -125,7 +125,7 @@ module _ (Sim : State → State → Type 0) (P : Name → Type 0) (sim : Simulat
 
     arguments_same : (s t : State) → Sim s t → (ps : List Param) (es : Exprs) → NamesEach P es → (vs : List Var) → arguments ds t ps es vs ≡ arguments ds s ps es vs
     arguments_same s t p [] es h vs = refl
-    arguments_same s t p (q ∷ ps) no_exprs h vs = refl
+    arguments_same s t p (q ∷ ps) no_exprs h vs = arguments_same s t p ps no_exprs h _
     arguments_same s t p (q ∷ ps) (more_exprs e es) h vs =
         rw (value_at e h.0 s t p) (value_same (eval ds s e) _ _ (λ z. value_same (convert q.ty z) _ _ (λ y. arguments_same s t p ps es h.1 _)))
 
@@ -170,7 +170,7 @@ module _ (Sim : State → State → Type 0) (P : Name → Type 0) (sim : Simulat
 
   pub copies_alike : (xs : List (Name × Ty)) (zs : List ℤ) (s t : State) → Sim s t → Sim (push_copies xs zs s) (push_copies xs zs t)
   copies_alike [] zs s t p = p
-  copies_alike (x ∷ xs) [] s t p = p
+  copies_alike (x ∷ xs) [] s t p = copies_alike xs [] (push x.0 (scalar x.1 None) s) (push x.0 (scalar x.1 None) t) (sim.pushed x.0 _ s t p)
   copies_alike (x ∷ xs) (z ∷ zs) s t p = copies_alike xs zs (push x.0 (scalar x.1 (Some z)) s) (push x.0 (scalar x.1 (Some z)) t) (sim.pushed x.0 _ s t p)
 
   body_alike : (a b : Option Body) (zs : List ℤ) → BodyAlike a b → Alike Sim (run_body a zs) (run_body b zs)

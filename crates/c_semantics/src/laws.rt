@@ -1,6 +1,7 @@
 //! Laws of runs.
 
 ghost use Rattle.c_semantics.specs.Laws.Bounds.{LinesGrow, OutcomeStays};
+ghost use Rattle.c_semantics.specs.Laws.LeastNeed.{LeastNeed};
 ghost use Rattle.c_semantics.specs.Laws.Apart.{RunsWithoutGlobal, RunsWithoutLocal};
 
 /// An outcome that isn't cut off is the outcome at every greater bound, with the same turns of `for` loops.
@@ -22,4 +23,10 @@ pub fn unnamed_variable()
 /// run alike.
 pub fn unnamed_file_variable()
     ensures { RunsWithoutGlobal }
+{}
+
+/// What a directive asks of its body is the least number of loops with which each of its items finds the loops that it
+/// takes and each of its parts is as deep as is wanted, and none where there is no such number.
+pub fn least_need()
+    ensures { LeastNeed }
 {}

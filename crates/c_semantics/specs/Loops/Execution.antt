@@ -15,10 +15,10 @@ pub record Body : Type 0 where
   pub vars : List (Name × Ty)
   pub run : Meaning
 
--- private copies of the variables with their values, the outermost first
+-- private copies of the variables with their values, the outermost first; one without a value is unset
 abbrev pub push_copies : List (Name × Ty) → List ℤ → State → State
 push_copies [] zs s = s
-push_copies (x ∷ xs) [] s = s
+push_copies (x ∷ xs) [] s = push_copies xs [] (push x.0 (scalar x.1 None) s)
 push_copies (x ∷ xs) (z ∷ zs) s = push_copies xs zs (push x.0 (scalar x.1 (Some z)) s)
 
 -- the copies, the statements as a block, where `continue` ends this iteration, and the copies are dropped
