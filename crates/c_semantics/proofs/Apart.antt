@@ -3,14 +3,13 @@ use Rattle.std.proofs.Common.{◌≡◌, refl, sym, ap, ◌∙◌, subst, ℕ, z
 use Rattle.std.specs.Prelude.{bytes_eq, if◌then◌else◌}
 use Rattle.std.proofs.lemmas.Bool.{both_ways}
 use Rattle.std.proofs.lemmas.Slice.Eq.{bytes_eq-Decides}
-use Rattle.c_tree.specs.Bare.{Name, Stmt, step, input, function}
+use Rattle.c_tree.specs.Bare.{Name, Stmt}
 use Rattle.c_semantics.specs.Meaning.State.{Cell, Var, State, find, write, or_else, look, store, write_at, push, keep, print_line, count_turn, with_frame, with_globals}
 use Rattle.c_semantics.specs.Meaning.SimpleStatements.{rest_of, Function, Env, function_named, call_end, in_frame}
 use Rattle.c_semantics.specs.Meaning.Statements.{exec}
-use Rattle.c_semantics.specs.Loops.IterationTrees.{body}
 use Rattle.c_semantics.specs.Laws.Names.{Uses}
 use Rattle.c_semantics.specs.Laws.Apart.{Differ, Beside, here, there, BesideInFrame, BesideInFile, Alike, FunctionAlike, RunsAlike, RunsWithoutLocal, RunsWithoutGlobal}
-use Rattle.c_semantics.specs.Meaning.FileVariables.{has_name, param_names, both, variable}
+use Rattle.c_semantics.specs.Meaning.FileVariables.{has_name, param_names}
 use Rattle.c_semantics.proofs.Grows.{length_write}
 use Rattle.c_semantics.proofs.FrameNames.{names, names-write, names-keep}
 use Rattle.c_semantics.proofs.ScopeNames.{more_names, outer_name}
@@ -148,18 +147,20 @@ module _ (v : Var) (k : ℕ) where
   beside_file = record {
     looks = look_seen;
     inputs = λ b s t p. ap (λ u. u.input) p.0.2;
-    stored = λ b x c h s t p.
-        (subst (λ u. BesideInFile v k (store x c s) (store x c u)) (sym p.0.2) (stored_file x c s p.0.0 p.0.1 (seen_cases b x s t p h)),
-        λ e. stored_names x v.name c s (find x s.frame) (p.1 e));
+    stored = λ b x c h s t p. (
+      subst (λ u. BesideInFile v k (store x c s) (store x c u)) (sym p.0.2) (stored_file x c s p.0.0 p.0.1 (seen_cases b x s t p h)),
+      λ e. stored_names x v.name c s (find x s.frame) (p.1 e),
+    );
     pushed = λ b x c s t p. (file_step (push x c) (λ s m q. (m, q, refl)) s t p.0, more_names v.name x b (names s.frame) p.1);
     outer = λ b x s t p. (p.0, λ e. p.1 (outer_name v.name x b e));
     said = λ b z s t p. (file_step (print_line z) (λ s m q. (m, q, refl)) s t p.0, p.1);
     ticked = λ b s t p. (file_step count_turn (λ s m q. (m, q, refl)) s t p.0, p.1);
     taken = λ b s t p. (file_step take_one (λ s m q. (m, q, refl)) s t p.0, p.1);
-    left = λ b s t u w p q n.
-        (subst (λ t'. BesideInFile v k (with_frame (keep (length s.frame) u.frame) u) (with_frame (keep (length t'.frame) w.frame) w)) (sym p.0.2)
-        (subst (λ w'. BesideInFile v k (with_frame (keep (length s.frame) u.frame) u) (with_frame (keep (length s.frame) w'.frame) w')) (sym q.0.2) (q.0.0, q.0.1, refl)),
-        λ e. subst (λ ns. has_name ns v.name ≡ true) (sym (names-keep s u n)) (p.1 e));
+    left = λ b s t u w p q n. (
+      subst (λ t'. BesideInFile v k (with_frame (keep (length s.frame) u.frame) u) (with_frame (keep (length t'.frame) w.frame) w)) (sym p.0.2)
+          (subst (λ w'. BesideInFile v k (with_frame (keep (length s.frame) u.frame) u) (with_frame (keep (length s.frame) w'.frame) w')) (sym q.0.2) (q.0.0, q.0.1, refl)),
+      λ e. subst (λ ns. has_name ns v.name ≡ true) (sym (names-keep s u n)) (p.1 e),
+    );
   }
 
   abbrev pub CalledBeside : Option Function → Type 0

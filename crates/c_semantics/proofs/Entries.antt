@@ -1,5 +1,5 @@
 -- A construct has the same forest where the names that its bounds use look the same.
-use Rattle.std.proofs.Common.{◌≡◌, refl, ap, ℕ, zero, suc, ◌+◌, List, Option, Some, None, Result, Ok}
+use Rattle.std.proofs.Common.{◌≡◌, refl, ap, ℕ, zero, suc, ◌+◌, List, Option, Some, None, Ok}
 use Rattle.std.specs.Prelude.{unwrap_or}
 use Rattle.c_tree.specs.Bare.{Name, Stmt, for_, block, omp, Stmts, no_stmts, more_stmts, head, Directive}
 use Rattle.c_tree.specs.declared.tree.Ty.{Ty}
@@ -28,7 +28,7 @@ module _ (ds : List Define) (P : List Name → Name → Type 0) (C : Name → Ty
   enter_same (Some c) g = rw (eval_same ds (P h) s t looks c.lb g.1, eval_same ds (P h) s t looks c.ub g.2, loop_type_same c g.0) refl
 
   mutual
-    nest_same : (b : List Name) (a : Stmt) (j : ℕ) → TouchesNest ds P C h b j a → (i : ℕ) → nest ds t i j a ≡ nest ds s i j a
+    nest_same : (b : List Name) (a : Stmt) (j : ℕ) → TouchesNest ds P C h b j a → (i : ℕ) → nest apply_plan ds t i j a ≡ nest apply_plan ds s i j a
     nest_same b (for_ (head o e next) a) (suc zero) g i = rw (enter_same (canonical ds (head o e next)) g.0) refl
     nest_same b (for_ (head o e next) a) (suc (suc j)) g i =
         rw (enter_same (canonical ds (head o e next)) g.0, nests_same (scope_with (canonical ds (head o e next)) b) a (suc j) g.1 i) refl
@@ -37,7 +37,7 @@ module _ (ds : List Define) (P : List Name → Name → Type 0) (C : Name → Ty
     nest_same b _ zero g i = refl
     nest_same b _ (suc j) g i = refl
 
-    nests_same : (b : List Name) (as' : Stmts) (j : ℕ) → TouchesNests ds P C h b j as' → (i : ℕ) → nest_all ds t i j as' ≡ nest_all ds s i j as'
+    nests_same : (b : List Name) (as' : Stmts) (j : ℕ) → TouchesNests ds P C h b j as' → (i : ℕ) → nest_all apply_plan ds t i j as' ≡ nest_all apply_plan ds s i j as'
     nests_same b no_stmts j g i = refl
     nests_same b (more_stmts a as') j g i = rw (nest_same b a j g.0 i, nests_same b as' j g.1 (i + bodies ds j a)) refl
 

@@ -1,5 +1,5 @@
 -- A function that neither may read nor may assign a file-scope variable runs alike with and without it.
-use Rattle.std.proofs.Common.{◌≡◌, refl, sym, ◌∙◌, ℕ, zero, suc, ◌⊎◌, inl, inr, List, [], ◌∷◌, ◌++◌, Option, Some, None, Bool, true, false}
+use Rattle.std.proofs.Common.{◌≡◌, refl, sym, ◌∙◌, ℕ, zero, suc, inl, inr, List, [], ◌∷◌, ◌++◌, Option, Some, None, Bool, true, false}
 use Rattle.std.specs.Prelude.{bytes_eq, if◌then◌else◌}
 use Rattle.std.specs.Bool.{one_answer}
 use Rattle.std.proofs.lemmas.Bool.{both_ways}
@@ -13,8 +13,7 @@ use Rattle.c_semantics.specs.Meaning.Expressions.{Define}
 use Rattle.c_semantics.specs.Meaning.SimpleStatements.{Function, Env, function_named}
 use Rattle.c_semantics.specs.Meaning.Statements.{exec_all}
 use Rattle.c_semantics.specs.Meaning.Programs.{env_after, no_env, define_of}
-use Rattle.c_semantics.specs.Loops.CanonicalForm.{Canonical, test, canonical}
-use Rattle.c_semantics.specs.Loops.IterationTrees.{body}
+use Rattle.c_semantics.specs.Loops.CanonicalForm.{Canonical, canonical}
 use Rattle.c_semantics.specs.Loops.Directives.{plan_of}
 use Rattle.c_semantics.specs.Loops.Need.{loops_asked}
 use Rattle.c_semantics.specs.Laws.Names.{Names, NamesEach, NamesIf, NamesIn}
@@ -59,6 +58,7 @@ module _ (v : Var) (k : ℕ) where
       differ : (b : Bool) → bytes_eq v.name x ≡ b → (if b then true else false) ≡ false → Differ x v.name
       differ true d e = absurd (both_ways true e refl)
       differ false d e = bytes_eq_sym x v.name ∙ d
+
       by : (b : Bool) → has_name h x ≡ b → Free (if b then [] else x ∷ []) → Seen v k h x
       by true d e = inl d
       by false d e = inr (differ (bytes_eq v.name x) refl e)

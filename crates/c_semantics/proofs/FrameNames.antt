@@ -1,7 +1,7 @@
 -- A frame only gets more names on top of those that it has, and a block's or a call's frame has the same names again.
 use Rattle.std.proofs.Common.{◌≡◌, refl, sym, ap, ◌∙◌, subst, ℕ, zero, suc, ◌+◌, ◌-◌, List, [], ◌∷◌, ◌++◌, length, drop, Option, Some, None, Bool, true, false, arith, append_assoc, length-append}
 use Rattle.std.specs.Prelude.{bytes_eq, if◌then◌else◌}
-use Rattle.c_tree.specs.Bare.{Name, function}
+use Rattle.c_tree.specs.Bare.{Name}
 use Rattle.c_semantics.specs.Meaning.State.{Cell, Var, State, find, write, write_at, keep}
 use Rattle.c_semantics.specs.Meaning.SimpleStatements.{Function}
 use Rattle.c_semantics.proofs.Invariant.{Kept, FunctionKeeps}

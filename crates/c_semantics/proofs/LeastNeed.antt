@@ -2,9 +2,9 @@
 use Rattle.std.proofs.Common.{◌≡◌, refl, sym, ◌∙◌, subst, ℕ, zero, suc, ◌+◌, ◌-◌, ◌≤◌, ◌<◌, ◌⊎◌, inl, inr, Option, Some, None, Bool, true, false, arith}
 use Rattle.std.specs.Prelude.{if◌then◌else◌}
 use Rattle.std.proofs.lemmas.Bool.{cases_lt, both_ways}
-use Rattle.c_semantics.specs.Loops.Transformations.{Transformation, fuse, Plan, plan}
-use Rattle.c_semantics.specs.Loops.Need.{takes, serves, least_from, reach, tries, need}
-use Rattle.c_semantics.specs.Laws.LeastNeed.{IsTried, IsNeed, LeastNeed}
+use Rattle.c_semantics.specs.Loops.Transformations.{fuse, Plan, plan}
+use Rattle.c_semantics.specs.Loops.Need.{takes, serves, least_from, reach, need}
+use Rattle.c_semantics.specs.Laws.LeastNeed.{IsNeed, LeastNeed}
 use Rattle.c_semantics.proofs.Depths.{serves-suc}
 
 module _ (p : Plan) (d : ℕ) where

@@ -1,5 +1,5 @@
 -- The names of frames, as scopes: what a frame of arguments and private copies hide.
-use Rattle.std.proofs.Common.{◌≡◌, refl, sym, ap, ◌∙◌, subst, ℕ, List, [], ◌∷◌, ◌++◌, Option, Some, None, Result, Ok, Err, Bool, true, false, append-nil}
+use Rattle.std.proofs.Common.{◌≡◌, refl, sym, subst, List, [], ◌∷◌, ◌++◌, Option, Some, None, Result, Ok, Err, Bool, true, false, append-nil}
 use Rattle.std.specs.Prelude.{if◌then◌else◌, bytes_eq}
 use Rattle.c_tree.specs.Bare.{Name, Exprs, no_exprs, more_exprs, Param}
 use Rattle.c_tree.specs.declared.tree.Ty.{Ty}

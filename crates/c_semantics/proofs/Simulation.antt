@@ -2,14 +2,14 @@
 -- relation, in the scope where it is taken.
 use Rattle.std.proofs.Common.{◌≡◌, refl, sym, ap, ◌∙◌, subst, ℕ, zero, suc, List, [], ◌∷◌, ◌++◌, length, Option, Some, None, Result, Ok, Err, Bool, true, false, ℤ, slice_get}
 use Rattle.std.specs.Prelude.{if◌then◌else◌}
-use Rattle.c_tree.specs.Bare.{Name, Expr, num, Exprs, no_exprs, more_exprs, Target, target, Stmt, decl, set, step, print, input, if_, if_else, while_, do_, for_, block, break_, continue_, empty, omp, call, Stmts, no_stmts, more_stmts, head, MaybeStmt, no_stmt, a_stmt, Param, function}
+use Rattle.c_tree.specs.Bare.{Name, Expr, num, Exprs, no_exprs, more_exprs, Target, target, Stmt, decl, set, step, print, input, if_, if_else, while_, do_, for_, block, break_, continue_, empty, omp, call, Stmts, no_stmts, more_stmts, head, MaybeStmt, no_stmt, a_stmt, Param}
 use Rattle.c_tree.specs.declared.tree.Ty.{Ty}
 use Rattle.c_tree.specs.declared.tree.Ty.TheVariants.{Int, Long}
 use Rattle.c_tree.specs.declared.tree.SetOp.{SetOp}
 use Rattle.c_tree.specs.declared.tree.SetOp.TheVariants.{Add, Sub}
 use Rattle.c_semantics.specs.Meaning.State.{Cell, scalar, Var, State, look, store, push, keep, print_line, count_turn, with_frame}
 use Rattle.c_semantics.specs.Meaning.Arithmetic.{Trap, and_then, convert}
-use Rattle.c_semantics.specs.Meaning.Expressions.{Define, eval, place}
+use Rattle.c_semantics.specs.Meaning.Expressions.{Define, eval}
 use Rattle.c_semantics.specs.Meaning.Runs.{End, Next, Break, Continue, Trapped, Cut, Run, Meaning, ends, on_next, then_do, with_value, leave, in_block, turn_end, loop_end, with_end, ask, repeat, repeat_after, turn_of, for_turn, while_loop}
 use Rattle.c_semantics.specs.Meaning.SimpleStatements.{holds_in, head_test, changed, type_in, set_to, next_input, rest_of, take_input, Function, Env, function_named, arguments, in_frame, call_of}
 use Rattle.c_semantics.specs.Meaning.Statements.{exec, exec_all, exec_maybe, bodies_of, bodies_all}
@@ -21,7 +21,7 @@ use Rattle.c_semantics.specs.Loops.Execution.{Body, push_copies, run_body, run_t
 use Rattle.c_semantics.specs.Laws.Names.{Names, NamesEach, NamesIf, NamesIn}
 use Rattle.c_semantics.specs.Laws.Apart.{Alike, RunsAlike}
 use Rattle.c_semantics.specs.Meaning.FileVariables.{scope_after, scope_in, scope_with, param_names}
-use Rattle.c_semantics.proofs.Invariant.{Keeps, then_keeps, block_keeps, repeat_keeps, turn_keeps, copies_keep, list_keeps, maybe_keeps}
+use Rattle.c_semantics.proofs.Invariant.{Keeps, then_keeps, repeat_keeps, turn_keeps, copies_keep, list_keeps, maybe_keeps}
 use Rattle.c_semantics.proofs.FrameNames.{SameNames, names_kept, function_names}
 use Rattle.c_semantics.proofs.ScopeNames.{HoldsNames, HoldsParams, arguments_hold, copied, copied-loop_var}
 use Rattle.c_semantics.proofs.Evals.{value_same, type_same, eval_same, place_same}
@@ -195,9 +195,11 @@ module _ (Sim : List Name → State → State → Type 0) (P : List Name → Nam
         subst (λ xs. RunsAlike (Sim h) (run_body (Some a) zs s) (with_end turn_end (leave t (b.run (push_copies xs zs t))))) (sym k.0)
         (let u = push_copies a.vars zs s in
         let w = push_copies a.vars zs t in
-        let r = k.1 u w (copies_alike h a.vars zs s t p) in
-        (sim.left h s t (a.run u).state (b.run w).state p (outer_all h a.vars (a.run u).state (b.run w).state r.0)
-        (names_kept.then_ s u (a.run u).state (copies_keep SameNames names_kept a.vars zs s) (k.2 u)), ap turn_end r.1))
+        let r = k.1 u w (copies_alike h a.vars zs s t p) in (
+          sim.left h s t (a.run u).state (b.run w).state p (outer_all h a.vars (a.run u).state (b.run w).state r.0)
+              (names_kept.then_ s u (a.run u).state (copies_keep SameNames names_kept a.vars zs s) (k.2 u)),
+          ap turn_end r.1,
+        ))
 
     module _ (n : ℕ) (as' bs : List Body) (k : BodiesAlike as' bs) where
       mutual
@@ -284,10 +286,12 @@ module _ (Sim : List Name → State → State → Type 0) (P : List Name → Nam
           let r = maybe_then h i k.0 looped (λ u w q.
           loop_alike b _ _ (repeat_alike b n (head_test env.defines e) (test_same env.defines b e k.1) turn turn (λ y z r.
           then_alike b (turn_of (exec_all n env a) (count_turn y)) (turn_of (exec_all n env a) (count_turn z)) (exec_maybe n env next) (exec_maybe n env next)
-          (turn_alike b (exec_all n env a) (exec_all n env a) (list_names a) (list_alike b a k.3) (count_turn y) (count_turn z) (sim.ticked b y z r)) (maybe_alike b next k.2)) u w q)) s t p in
-          (sim.left h s t (then_do (exec_maybe n env i s) looped).state (then_do (exec_maybe n env i t) looped).state p r.0
-          (then_keeps SameNames names_kept s (exec_maybe n env i s) looped (maybe_names i s)
-          (repeat_keeps SameNames names_kept n (head_test env.defines e) turn (turn_keeps SameNames names_kept (exec_all n env a) (exec_maybe n env next) (list_names a) (maybe_names next)))), r.1)
+          (turn_alike b (exec_all n env a) (exec_all n env a) (list_names a) (list_alike b a k.3) (count_turn y) (count_turn z) (sim.ticked b y z r)) (maybe_alike b next k.2)) u w q)) s t p in (
+            sim.left h s t (then_do (exec_maybe n env i s) looped).state (then_do (exec_maybe n env i t) looped).state p r.0
+                (then_keeps SameNames names_kept s (exec_maybe n env i s) looped (maybe_names i s)
+                (repeat_keeps SameNames names_kept n (head_test env.defines e) turn (turn_keeps SameNames names_kept (exec_all n env a) (exec_maybe n env next) (list_names a) (maybe_names next)))),
+            r.1,
+          )
       exec_alike h (block a) k s t p = block_alike h (exec_all n env a) (exec_all n env a) (list_names a) (list_alike h a k) s t p
       exec_alike h break_ k s t p = (p, refl)
       exec_alike h continue_ k s t p = (p, refl)
@@ -316,9 +320,14 @@ module _ (Sim : List Name → State → State → Type 0) (P : List Name → Nam
           TouchesNest env.defines P Calls h b j a → BodiesAlike h (bodies_of n env s xs j a) (bodies_of n env t ys j a)
       body_list_alike h s t p xs ys e b d (suc zero) (for_ (head i o next) a) k =
           let c = canonical env.defines (head i o next) in
-          let same = copied-loop_var env.defines s c xs h ∙ ap (scope_with c) d in
-          ((ap (λ us. us ++ loop_var env.defines t c) e ∙ ap (λ us. xs ++ us) (var_same h s t p c k.0),
-          subst (λ u. Alike (Sim u) (exec_all n env a) (exec_all n env a)) (sym same) (list_alike (scope_with c b) a k.1), list_names a), tt)
+          let same = copied-loop_var env.defines s c xs h ∙ ap (scope_with c) d in (
+            (
+              ap (λ us. us ++ loop_var env.defines t c) e ∙ ap (λ us. xs ++ us) (var_same h s t p c k.0),
+              subst (λ u. Alike (Sim u) (exec_all n env a) (exec_all n env a)) (sym same) (list_alike (scope_with c b) a k.1),
+              list_names a,
+            ),
+            tt,
+          )
       body_list_alike h s t p xs ys e b d (suc (suc j)) (for_ (head i o next) a) k =
           let c = canonical env.defines (head i o next) in
           bodies_alike h s t p (xs ++ loop_var env.defines s c) (ys ++ loop_var env.defines t c)

@@ -1,7 +1,7 @@
 -- What holds of each name that statements use, in the scope where they use it.
 use Rattle.std.proofs.Common.{ℕ, zero, suc, List, ◌∷◌, Option, Some, None, Bool, true, false, ℤ}
 use Rattle.std.specs.Prelude.{if◌then◌else◌}
-use Rattle.c_tree.specs.Bare.{Name, Expr, num, read, item, un, bin, cond, cast, Exprs, no_exprs, more_exprs, Target, target, Stmt, decl, set, step, print, input, if_, if_else, while_, do_, for_, block, break_, continue_, empty, omp, call, Stmts, no_stmts, more_stmts, head, MaybeStmt, no_stmt, a_stmt, function}
+use Rattle.c_tree.specs.Bare.{Name, Expr, num, read, item, un, bin, cond, cast, Exprs, no_exprs, more_exprs, Target, target, Stmt, decl, set, step, print, input, if_, if_else, while_, do_, for_, block, break_, continue_, empty, omp, call, Stmts, no_stmts, more_stmts, head, MaybeStmt, no_stmt, a_stmt}
 use Rattle.c_tree.specs.declared.tree.Ty.{Ty}
 use Rattle.c_tree.specs.declared.tree.BinOp.{BinOp}
 use Rattle.c_tree.specs.declared.tree.SetOp.TheVariants.{Plain}
@@ -10,8 +10,7 @@ use Rattle.c_semantics.specs.Loops.CanonicalForm.{Canonical, Init, Test, init, t
 use Rattle.c_semantics.specs.Loops.Directives.{plan_of}
 use Rattle.c_semantics.specs.Loops.Need.{loops_asked}
 use Rattle.c_semantics.specs.Laws.Names.{Names, NamesEach, NamesIf, NamesIn, Uses, UsesAll, UsesIf}
-use Rattle.c_semantics.specs.Laws.Apart.{there}
-use Rattle.c_semantics.specs.Meaning.FileVariables.{scope_after, scope_in, scope_with, variable}
+use Rattle.c_semantics.specs.Meaning.FileVariables.{scope_after, scope_in, scope_with}
 
 -- ---- heads
 

@@ -1,11 +1,14 @@
 -- Worked examples: constructs over several loops, and directives on directives.
-use Rattle.std.specs.Prelude.{ℕ, [], ◌∷◌, Some, codes}
-use Rattle.c_tree.specs.Bare.{Name, read, bin, fill, given, counts, sizes, permutation, looprange, Stmt, decl, for_, block, Stmts, head, a_stmt}
+use Rattle.std.specs.Prelude.{ℕ, [], ◌∷◌, Some, None, pos, negsuc, codes}
+use Rattle.c_tree.specs.Bare.{Name, Exprs, read, item, bin, target, set, print, Top, global, main, Program, fill, given, counts, sizes, permutation, looprange, Stmt, decl, for_, block, Stmts, head, a_stmt}
 use Rattle.c_tree.specs.declared.tree.Ty.TheVariants.{Int}
-use Rattle.c_tree.specs.declared.tree.BinOp.TheVariants.{Mul, Div, Add, Lt}
+use Rattle.c_tree.specs.declared.tree.BinOp.TheVariants.{Mul, Div, Add, Sub, Lt}
+use Rattle.c_tree.specs.declared.tree.SetOp.TheVariants as assigned
+use Rattle.c_tree.specs.declared.tree.SetOp.TheVariants.{Plain}
 use Rattle.c_tree.specs.declared.tree.Kind.TheVariants.{Tile, Interchange, Reverse, Split, Fuse}
 use Rattle.c_semantics.specs.Meaning.Arithmetic.{DivideByZero}
-use Rattle.c_semantics.specs.Examples.Notation.{int, exprs, list, only, up, for_to, print_all, directed, Prints, Traps, nats, f, p, HasLoops}
+use Rattle.c_semantics.specs.Meaning.Programs.{Ended}
+use Rattle.c_semantics.specs.Examples.Notation.{int, exprs, list, only, up, for_to, print_all, directed, unbounded, Does, Prints, Traps, nats, f, p, HasLoops}
 
 abbrev i : Name
 i = codes "i"
@@ -18,6 +21,15 @@ k = codes "k"
 
 abbrev z : Name
 z = codes "z"
+
+abbrev a : Name
+a = codes "a"
+
+abbrev b : Name
+b = codes "b"
+
+abbrev c : Name
+c = codes "c"
 
 -- for (int i = 0; i < b; i++) print(i);
 abbrev counting : ℕ → Stmt
@@ -75,6 +87,24 @@ fused_parts_of_a_split = only (directed Fuse [] (directed Split (counts (given (
 abbrev interchanged_tile_loops : Stmts
 interchanged_tile_loops = only (directed Interchange [] (directed Tile (sizes (exprs (int 4 ∷ [])) ∷ []) (counting 8)))
 
+-- int a[4][4]; int b[4][4]; int c[4][4];
+-- for (int i = 0; i < 4; i++) for (int j = 0; j < 4; j++) { a[i][j] = i + j; b[i][j] = i - j; }
+-- #pragma omp tile sizes(2, 2, 2)
+-- for (int i = 0; i < 4; i++) for (int j = 0; j < 4; j++) for (int k = 0; k < 4; k++) c[i][j] += a[i][k] * b[k][j];
+-- print(c[0][0]); print(c[3][3]);
+abbrev at : Name → Name → Exprs
+at x y = exprs (read x ∷ read y ∷ [])
+
+abbrev square : Name → Top
+square x = global Int x (exprs (int 4 ∷ int 4 ∷ [])) None
+
+abbrev tiled_matrix_product : Program
+tiled_matrix_product = square a ∷ square b ∷ square c ∷ main (list (
+    for_to i 4 (only (for_to j 4 (list (set (target a (at i j)) Plain (bin Add (read i) (read j)) ∷ set (target b (at i j)) Plain (bin Sub (read i) (read j)) ∷ [])))) ∷
+    directed Tile (sizes (exprs (int 2 ∷ int 2 ∷ int 2 ∷ [])) ∷ [])
+    (for_to i 4 (only (for_to j 4 (only (for_to k 4 (only (set (target c (at i j)) assigned.Add (bin Mul (item a (at i k)) (item b (at k j)))))))))) ∷
+    print (item c (exprs (int 0 ∷ int 0 ∷ []))) ∷ print (item c (exprs (int 3 ∷ int 3 ∷ []))) ∷ [])) ∷ []
+
 pub record SeveralLoops : Type 0 where
   pub tile_of_two_loops : Prints tiles_of_two_loops (nats (0 ∷ 1 ∷ 10 ∷ 11 ∷ 20 ∷ 21 ∷ 2 ∷ 3 ∷ 12 ∷ 13 ∷ 22 ∷ 23 ∷ 4 ∷ 14 ∷ 24 ∷ 30 ∷ 31 ∷ 32 ∷ 33 ∷ 34 ∷ [])) 40
   pub permutation_of_three_loops : Prints permuted (nats (0 ∷ 100 ∷ 1 ∷ 101 ∷ 10 ∷ 110 ∷ 11 ∷ 111 ∷ 20 ∷ 120 ∷ 21 ∷ 121 ∷ [])) 21
@@ -84,6 +114,7 @@ pub record SeveralLoops : Type 0 where
   pub inner_bounds_are_taken_before_an_empty_loop : Traps inner_bound_traps [] DivideByZero
   pub fuse_of_split : Prints fused_parts_of_a_split (nats (0 ∷ 2 ∷ 1 ∷ 3 ∷ 4 ∷ [])) 3
   pub interchange_of_grid_and_tile_loop : Prints interchanged_tile_loops (nats (0 ∷ 4 ∷ 1 ∷ 5 ∷ 2 ∷ 6 ∷ 3 ∷ 7 ∷ [])) 12
+  pub tile_of_a_matrix_product : Does unbounded tiled_matrix_product (pos 14 ∷ negsuc 21 ∷ []) Ended 146
   pub loops_of_tile_of_two : HasLoops tiles_of_two_loops (f (f (f (f (p ∷ []) ∷ []) ∷ []) ∷ []) ∷ [])
   pub loops_of_permutation : HasLoops permuted (f (f (f (p ∷ []) ∷ []) ∷ []) ∷ [])
   pub loops_of_tile_of_reverse : HasLoops tiles_of_a_reversed_loop (f (f (p ∷ []) ∷ []) ∷ [])

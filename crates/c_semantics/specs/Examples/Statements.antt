@@ -3,7 +3,7 @@ use Rattle.std.specs.Prelude.{◌≡◌, [], ◌∷◌, Some, None, pos, negsuc,
 use Rattle.c_tree.specs.Bare.{Name, no_exprs, read, item, un, bin, cond, target, decl, print, input, while_, block, empty, Stmts, global, main, for_, head, a_stmt}
 use Rattle.c_tree.specs.declared.tree.Ty.TheVariants.{Int}
 use Rattle.c_tree.specs.declared.tree.UnOp.TheVariants.{Neg}
-use Rattle.c_tree.specs.declared.tree.BinOp.TheVariants.{Add, Div, Rem, Lt}
+use Rattle.c_tree.specs.declared.tree.BinOp.TheVariants.{Add, Sub, Div, Rem, Lt}
 use Rattle.c_tree.specs.declared.tree.SetOp.TheVariants as assigned
 use Rattle.c_semantics.specs.Meaning.State.{scalar}
 use Rattle.c_semantics.specs.Meaning.Arithmetic.{Overflow, DivideByZero, Unset, Narrow, Index, InputEnd}
@@ -52,6 +52,8 @@ pub record Statements : Type 0 where
   pub division_toward_zero : Prints (print_all (bin Div (un Neg (int 7)) (int 2) ∷ bin Rem (un Neg (int 7)) (int 2) ∷ [])) (negsuc 2 ∷ negsuc 0 ∷ []) 0
   -- print(1 % 0);
   pub remainder_by_zero : Traps (print_all (bin Rem (int 1) (int 0) ∷ [])) [] DivideByZero
+  -- print((-2147483647 - 1) % -1);
+  pub remainder_of_the_least_int : Traps (print_all (bin Rem (bin Sub (un Neg (int 2147483647)) (int 1)) (un Neg (int 1)) ∷ [])) [] Overflow
   -- int a[2]; int main(void) { print(a[2]); }
   pub subscript_past_the_end : Does 100 (global Int x (exprs (int 2 ∷ [])) None ∷ main (print_all (item x (exprs (int 2 ∷ [])) ∷ [])) ∷ []) [] (Stopped Index) 0
   -- with the input 21

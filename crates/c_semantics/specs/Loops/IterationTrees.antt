@@ -88,6 +88,10 @@ abbrev mutual
   all_leaves no_trees = []
   all_leaves (more_trees t ts) = leaves t ++ all_leaves ts
 
+-- of trees one after another
+abbrev pub forest_leaves : List Tree → List (ℕ × List ℤ)
+forest_leaves ts = all_leaves (of_list ts)
+
 abbrev mutual
   -- a value before the values of every body
   pub put : ℤ → Tree → Tree

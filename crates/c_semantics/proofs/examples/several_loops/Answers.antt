@@ -12,6 +12,7 @@ returns c = record {
   inner_bounds_are_taken_before_an_empty_loop = refl;
   fuse_of_split = refl;
   interchange_of_grid_and_tile_loop = refl;
+  tile_of_a_matrix_product = refl;
   loops_of_tile_of_two = refl;
   loops_of_permutation = refl;
   loops_of_tile_of_reverse = refl;
