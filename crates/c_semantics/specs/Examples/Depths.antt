@@ -40,7 +40,8 @@ pub record Depths : Type 0 where
   -- interchange permutation(3, 1, 2)
   pub need_of_interchange : needed Interchange (permutation (exprs (int 3 ∷ int 1 ∷ int 2 ∷ [])) ∷ []) 1 ≡ Some 3
   -- split counts(1, omp_fill) apply(split: tile sizes(4)): the second part is as deep as the loop
-  pub need_of_split : needed Split (counts (given (int 1) ∷ fill ∷ []) ∷ applied_to (codes "split") (item_of Tile (by_four ∷ []) ∷ []) ∷ []) 2 ≡ Some 2
+  pub need_of_split :
+      needed Split (counts (given (int 1) ∷ fill ∷ []) ∷ applied_to (codes "split") (item_of Tile (by_four ∷ []) ∷ []) ∷ []) 2 ≡ Some 2
   pub need_of_fuse : needed Fuse [] 1 ≡ Some 1
   pub need_of_two_loops_of_fuse : needed Fuse [] 2 ≡ None
   -- tile sizes(4) over two loops gives three
@@ -48,6 +49,7 @@ pub record Depths : Type 0 where
   -- split counts(1, omp_fill) over two loops gives two parts
   pub depths_of_split : stmt_depths [] (directed Split (counts (given (int 1) ∷ fill ∷ []) ∷ []) two_loops) ≡ Some (2 ∷ 2 ∷ [])
   -- fuse of a loop and the two parts of a split
-  pub depth_of_fuse : stmt_depths [] (directed Fuse [] (block (list (one_loop ∷ directed Split (counts (given (int 1) ∷ fill ∷ []) ∷ []) one_loop ∷ [])))) ≡ Some (1 ∷ [])
+  pub depth_of_fuse :
+      stmt_depths [] (directed Fuse [] (block (list (one_loop ∷ directed Split (counts (given (int 1) ∷ fill ∷ []) ∷ []) one_loop ∷ [])))) ≡ Some (1 ∷ [])
   -- interchange of one loop
   pub too_shallow : stmt_depths [] (directed Interchange [] one_loop) ≡ None

@@ -6,7 +6,7 @@ use Rattle.c_tree.specs.declared.tree.BinOp.TheVariants.{Lt}
 use Rattle.c_tree.specs.declared.tree.SetOp.TheVariants.{Plain, Add}
 use Rattle.c_tree.specs.declared.tree.Kind.TheVariants.{Reverse}
 use Rattle.c_semantics.specs.Meaning.FileVariables.{may_read, may_assign}
-use Rattle.c_semantics.specs.Examples.Notation.{int, exprs, list, only, assign, up, directed, param}
+use Rattle.c_semantics.specs.Examples.Notation.{int, exprs, list, only, assign, up, for_assigned, directed, param}
 
 abbrev i : Name
 i = codes "i"
@@ -36,9 +36,10 @@ calling = codes "calling"
 abbrev three_functions : Program
 three_functions =
     global Int i no_exprs None ∷ global Int m no_exprs None ∷ global Int n no_exprs None ∷
-    function hidden (param Int n ∷ []) (list (block (list (decl Int m (Some (read n)) ∷ assign m Add (int 1) ∷ [])) ∷ assign m Plain (int 0) ∷ [])) ∷
+    function hidden (param Int n ∷ []) (list (
+        block (list (decl Int m (Some (read n)) ∷ assign m Add (int 1) ∷ [])) ∷ assign m Plain (int 0) ∷ [])) ∷
     function counting [] (only (directed Reverse []
-    (for_ (head (a_stmt (assign i Plain (int 0))) (Some (bin Lt (read i) (read n))) (a_stmt (up i))) (only (assign i Add (read m)))))) ∷
+    (for_assigned i (int 0) (bin Lt (read i) (read n)) (up i) (only (assign i Add (read m)))))) ∷
     function calling [] (list (call hidden (exprs (read m ∷ [])) ∷ call counting no_exprs ∷ [])) ∷ []
 
 pub record FileVariables : Type 0 where

@@ -8,7 +8,7 @@ use Rattle.c_tree.specs.declared.tree.SetOp.TheVariants as assigned
 use Rattle.c_semantics.specs.Meaning.State.{scalar}
 use Rattle.c_semantics.specs.Meaning.Arithmetic.{Overflow, DivideByZero, Unset, Narrow, Index, InputEnd}
 use Rattle.c_semantics.specs.Meaning.Programs.{Ended, Stopped, CutOff, outcome}
-use Rattle.c_semantics.specs.Examples.Notation.{int, long, exprs, list, only, assign, for_to, print_all, in_main, Does, Prints, Traps, nats}
+use Rattle.c_semantics.specs.Examples.Notation.{int, long, exprs, list, only, assign, up, for_declared, for_to, print_all, in_main, Does, Prints, Traps, nats}
 
 abbrev x : Name
 x = codes "x"
@@ -29,7 +29,9 @@ reads_itself = list (decl Int x (Some (int 3)) ∷ block (only (decl Int x (Some
 
 -- int i = 3; for (int i = i; i < 5; i++) ;
 abbrev head_reads_itself : Stmts
-head_reads_itself = list (decl Int i (Some (int 3)) ∷ for_ (head (a_stmt (decl Int i (Some (read i)))) (Some (bin Lt (read i) (int 5))) (a_stmt (assign i assigned.Add (int 1)))) (only empty) ∷ [])
+head_reads_itself = list (
+    decl Int i (Some (int 3)) ∷
+    for_declared Int i (read i) (bin Lt (read i) (int 5)) (up i) (only empty) ∷ [])
 
 pub record Statements : Type 0 where
   -- for (int i = 0; i < 20; i++) print(i); for (int i = 0; i < 30; i++) for (int j = 0; j < 30; j++) ;
@@ -55,11 +57,14 @@ pub record Statements : Type 0 where
   -- print((-2147483647 - 1) % -1);
   pub remainder_of_the_least_int : Traps (print_all (bin Rem (bin Sub (un Neg (int 2147483647)) (int 1)) (un Neg (int 1)) ∷ [])) [] Overflow
   -- int a[2]; int main(void) { print(a[2]); }
-  pub subscript_past_the_end : Does 100 (global Int x (exprs (int 2 ∷ [])) None ∷ main (print_all (item x (exprs (int 2 ∷ [])) ∷ [])) ∷ []) [] (Stopped Index) 0
+  pub subscript_past_the_end :
+      Does 100 (global Int x (exprs (int 2 ∷ [])) None ∷ main (print_all (item x (exprs (int 2 ∷ [])) ∷ [])) ∷ []) [] (Stopped Index) 0
   -- with the input 21
-  pub input_ends : outcome 100 (in_main doubled_input) (pos 21 ∷ []) ≡ record { lines = pos 42 ∷ []; globals = []; input = []; end = Stopped InputEnd }
+  pub input_ends :
+      outcome 100 (in_main doubled_input) (pos 21 ∷ []) ≡ record { lines = pos 42 ∷ []; globals = []; input = []; end = Stopped InputEnd }
   -- with the input 4000000000: the number is taken
-  pub input_does_not_fit : outcome 100 (in_main doubled_input) (pos 4000000000 ∷ []) ≡ record { lines = []; globals = []; input = []; end = Stopped Narrow }
+  pub input_does_not_fit :
+      outcome 100 (in_main doubled_input) (pos 4000000000 ∷ []) ≡ record { lines = []; globals = []; input = []; end = Stopped Narrow }
   -- int x = 5; int main(void) { x += 2; }
   pub file_variables_at_the_end :
       outcome 100 (global Int x no_exprs (Some (int 5)) ∷ main (only (assign x assigned.Add (int 2))) ∷ []) [] ≡

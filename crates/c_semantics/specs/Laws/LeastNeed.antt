@@ -10,7 +10,8 @@ IsTried c k = takes c ≤ k
 
 -- it serves where each part is to have depth d, and is the least that does; or none does
 abbrev pub IsNeed : Plan → ℕ → Option ℕ → Type 0
-IsNeed (plan c w) d (Some k) = IsTried c k × IsTrue (serves (plan c w) d k) × ((j : ℕ) → IsTried c j → IsTrue (serves (plan c w) d j) → k ≤ j)
+IsNeed (plan c w) d (Some k) =
+    IsTried c k × IsTrue (serves (plan c w) d k) × ((j : ℕ) → IsTried c j → IsTrue (serves (plan c w) d j) → k ≤ j)
 IsNeed (plan c w) d None = (j : ℕ) → IsTried c j → IsFalse (serves (plan c w) d j)
 
 abbrev pub LeastNeed : Type 0

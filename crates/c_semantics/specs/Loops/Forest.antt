@@ -52,7 +52,8 @@ module _ (act : Plan → List Tree → List Tree) (ds : List Define) (s : State)
     -- order of the text, and act tells what a directive makes of the parts of its body
     pub nest : ℕ → ℕ → Stmt → Result (List Tree) Trap
     nest b zero _ = Ok []
-    nest b (suc m) (for_ h a) = and_then (enter ds s (canonical ds h)) (λ r. and_then (or_body m b (nest_all b m a)) (λ ts. Ok (loop_over r ts)))
+    nest b (suc m) (for_ h a) =
+        and_then (enter ds s (canonical ds h)) (λ r. and_then (or_body m b (nest_all b m a)) (λ ts. Ok (loop_over r ts)))
     nest b (suc m) (block a) = nest_all b (suc m) a
     nest b (suc m) (omp d a) = and_then (nest_all b (loops_asked (plan_of ds d) (suc m)) a) (λ ts. Ok (act (plan_of ds d) ts))
     nest b (suc m) _ = Ok []

@@ -1,4 +1,5 @@
--- How many loops a directive needs of its body. A directive gives parts, each a nest of so many loops (its depth); a
+-- How many loops a directive needs of its body (OpenMP 6.0: the loops that a loop-transforming construct takes and
+-- generates, with those below them, which stay part of its nest). A directive gives parts, each a nest of so many loops (its depth); a
 -- directive round it may take those loops.
 use Rattle.std.specs.Prelude.{ℕ, zero, suc, ◌+◌, ◌-◌, List, [], ◌∷◌, ◌++◌, length, take, drop, replicate, Option, Some, None, Bool, true, false, ◌&&◌, nat_le, get_or, if◌then◌else◌, unwrap_or}
 use Rattle.c_semantics.specs.Loops.Transformations.{Transformation, tile, interchange, split, fuse, unroll_full, unroll_partial, Plan, plan, Applied, none_applied, applied_at}

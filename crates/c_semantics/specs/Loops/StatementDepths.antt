@@ -1,4 +1,5 @@
--- How many nested loops a statement gives to a directive round it. A list that holds only one block is read as that
+-- How many nested loops a statement gives to a directive round it (OpenMP 6.0, canonical loop nest form: perfectly
+-- nested loops; canonical loop sequence form for `fuse`). A list that holds only one block is read as that
 -- block's list, wherever a loop is looked for.
 use Rattle.std.specs.Prelude.{ℕ, suc, List, [], ◌∷◌, ◌++◌, Option, Some, None}
 use Rattle.c_tree.specs.Bare.{Directive, directive, Stmt, for_, block, omp, Stmts, no_stmts, more_stmts}

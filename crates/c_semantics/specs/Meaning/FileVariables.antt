@@ -1,6 +1,6 @@
 -- The file-scope variables and arrays that a function may read and may assign: those that its body, or that of a function
 -- which it calls, reads or assigns. A name means a file-scope variable where no parameter, no local variable and no
--- private copy of an affected loop's variable has_name it (C11 6.2.1).
+-- private copy of an affected loop's variable hides it (C11 6.2.1).
 use Rattle.std.specs.Prelude.{ℕ, zero, suc, List, [], ◌∷◌, ◌++◌, Option, Some, None, Bool, true, false, if◌then◌else◌, bytes_eq}
 use Rattle.c_tree.specs.Bare.{Name, Expr, num, read, item, un, bin, cond, cast, Exprs, no_exprs, more_exprs, Target, target, Stmt, decl, set, step, print, input, if_, if_else, while_, do_, for_, block, omp, call, Stmts, no_stmts, more_stmts, head, MaybeStmt, no_stmt, a_stmt, Param, Top, define, function, Program}
 use Rattle.c_tree.specs.declared.tree.Ty.{Ty}
@@ -96,7 +96,9 @@ variable h None x = free_name h x
 
 abbrev pub head_access : List Name → Option Canonical → Access
 head_access h None = no_access
-head_access h (Some c) = record { reads = variable h c.ty c.var ++ (free_names h c.lb ++ free_names h c.ub); assigns = variable h c.ty c.var }
+head_access h (Some c) =
+    let x = variable h c.ty c.var in
+    record { reads = x ++ (free_names h c.lb ++ free_names h c.ub); assigns = x }
 
 -- ---- statements
 
@@ -126,7 +128,8 @@ module _ (ds : List Define) (fs : List FunctionAccess) where
     accesses h (while_ e a) = both (reading (free_names h e)) (all_accesses h a)
     accesses h (do_ a e) = both (all_accesses h a) (reading (free_names h e))
     accesses h (for_ (head i e next) a) =
-        both (maybe_accesses h i) (both (reading (free_names_if (scope_in i h) e)) (both (maybe_accesses (scope_in i h) next) (all_accesses (scope_in i h) a)))
+        let u = scope_in i h in
+        both (maybe_accesses h i) (both (reading (free_names_if u e)) (both (maybe_accesses u next) (all_accesses u a)))
     accesses h (block a) = all_accesses h a
     accesses h (omp d a) = nests_accesses h h (loops_asked (plan_of ds d) 0) a
     accesses h (call f es) = both (access_of fs f) (reading (free_names_each h es))

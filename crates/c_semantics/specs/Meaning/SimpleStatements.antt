@@ -124,7 +124,8 @@ abbrev pub arguments : List Define → State → List Param → Exprs → List V
 arguments ds s [] es vs = Ok vs
 arguments ds s (p ∷ ps) no_exprs vs = arguments ds s ps no_exprs (record { name = p.name; cell = scalar p.ty None } ∷ vs)
 arguments ds s (p ∷ ps) (more_exprs e es) vs =
-    and_then (eval ds s e) (λ z. and_then (convert p.ty z) (λ z. arguments ds s ps es (record { name = p.name; cell = scalar p.ty (Some z) } ∷ vs)))
+    and_then (eval ds s e) (λ z. and_then (convert p.ty z) (λ z.
+    arguments ds s ps es (record { name = p.name; cell = scalar p.ty (Some z) } ∷ vs)))
 
 -- a call ends Next, or with a trap, or cut
 abbrev pub call_end : End → End
