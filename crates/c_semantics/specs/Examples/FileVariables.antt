@@ -1,6 +1,6 @@
 -- Worked examples: the file-scope variables that functions may read and may assign.
 use Rattle.std.specs.Prelude.{◌≡◌, [], ◌∷◌, Some, None, codes}
-use Rattle.c_tree.specs.Bare.{Name, no_exprs, read, bin, decl, block, call, for_, head, a_stmt, global, function, Program}
+use Rattle.c_tree.specs.Bare.{Name, no_exprs, read, bin, decl, block, call, global, function, Program}
 use Rattle.c_tree.specs.declared.tree.Ty.TheVariants.{Int}
 use Rattle.c_tree.specs.declared.tree.BinOp.TheVariants.{Lt}
 use Rattle.c_tree.specs.declared.tree.SetOp.TheVariants.{Plain, Add}
@@ -37,7 +37,7 @@ abbrev three_functions : Program
 three_functions =
     global Int i no_exprs None ∷ global Int m no_exprs None ∷ global Int n no_exprs None ∷
     function hidden (param Int n ∷ []) (list (
-        block (list (decl Int m (Some (read n)) ∷ assign m Add (int 1) ∷ [])) ∷ assign m Plain (int 0) ∷ [])) ∷
+    block (list (decl Int m (Some (read n)) ∷ assign m Add (int 1) ∷ [])) ∷ assign m Plain (int 0) ∷ [])) ∷
     function counting [] (only (directed Reverse []
     (for_assigned i (int 0) (bin Lt (read i) (read n)) (up i) (only (assign i Add (read m)))))) ∷
     function calling [] (list (call hidden (exprs (read m ∷ [])) ∷ call counting no_exprs ∷ [])) ∷ []

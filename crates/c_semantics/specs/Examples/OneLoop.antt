@@ -1,6 +1,6 @@
 -- Worked examples: constructs over one loop.
 use Rattle.std.specs.Prelude.{ℕ, [], ◌∷◌, Some, pos, negsuc, codes}
-use Rattle.c_tree.specs.Bare.{Name, read, bin, un, fill, given, counts, partial, sizes, Stmt, decl, print, if_, for_, continue_, Stmts, head, a_stmt}
+use Rattle.c_tree.specs.Bare.{Name, read, bin, un, fill, given, counts, partial, sizes, Stmt, decl, print, if_, continue_, Stmts}
 use Rattle.c_tree.specs.declared.tree.Ty.TheVariants.{Int, Long}
 use Rattle.c_tree.specs.declared.tree.UnOp.TheVariants.{Neg}
 use Rattle.c_tree.specs.declared.tree.BinOp.TheVariants.{Add, Sub, Rem, Lt, Le, Ne, Eq}
@@ -55,8 +55,8 @@ abbrev too_many_turns : Stmts
 too_many_turns = list (
     print (int 1) ∷
     directed Tile (sizes (exprs (int 2 ∷ [])) ∷ [])
-        (for_declared Long i (bin Sub (un Neg (long 9223372036854775807)) (long 1)) (bin Le (read i) (long 9223372036854775807)) (up i)
-        (print_all (read i ∷ []))) ∷ [])
+    (for_declared Long i (bin Sub (un Neg (long 9223372036854775807)) (long 1)) (bin Le (read i) (long 9223372036854775807)) (up i)
+    (print_all (read i ∷ []))) ∷ [])
 
 -- int omp_t0 = 9; int i = 9;
 -- #pragma omp reverse
@@ -93,6 +93,7 @@ pub record OneLoop : Type 0 where
   pub count_beyond_the_range : Does unbounded (in_main too_many_turns) (nats (1 ∷ [])) (Stopped Overflow) 0
   pub earlier_variable_keeps_its_value : Prints private_variable (nats (10 ∷ 9 ∷ 9 ∷ [])) 2
   pub cut_at_the_fourth_turn : Does 3 (in_main reversed) (nats (4 ∷ 3 ∷ 2 ∷ [])) CutOff 3
+  pub cut_in_a_tile : Does 3 (in_main tiled_by_four) (nats (0 ∷ 1 ∷ 2 ∷ [])) CutOff 4
   pub loops_of_reverse : HasLoops reversed (f (p ∷ []) ∷ [])
   pub loops_of_tile : HasLoops tiled_by_four (f (f (p ∷ []) ∷ []) ∷ [])
   pub loops_of_split : HasLoops split_in_three (f (p ∷ []) ∷ f (p ∷ []) ∷ f (p ∷ []) ∷ [])

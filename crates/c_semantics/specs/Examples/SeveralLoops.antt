@@ -1,6 +1,6 @@
 -- Worked examples: constructs over several loops, and directives on directives.
 use Rattle.std.specs.Prelude.{◌≡◌, ℕ, ℤ, List, [], ◌∷◌, Some, None, Result, Ok, pos, negsuc, codes}
-use Rattle.c_tree.specs.Bare.{Name, Exprs, read, item, bin, target, set, print, Top, global, main, Program, fill, given, counts, sizes, permutation, looprange, Stmt, decl, for_, block, Stmts, head, a_stmt}
+use Rattle.c_tree.specs.Bare.{Name, Exprs, read, item, bin, target, set, print, Top, global, main, Program, fill, given, counts, sizes, permutation, looprange, Stmt, decl, block, Stmts}
 use Rattle.c_tree.specs.declared.tree.Ty.TheVariants.{Int}
 use Rattle.c_tree.specs.declared.tree.BinOp.TheVariants.{Mul, Div, Add, Sub, Lt}
 use Rattle.c_tree.specs.declared.tree.SetOp.TheVariants as assigned
@@ -85,7 +85,7 @@ abbrev inner_bound_traps : Stmts
 inner_bound_traps = list (
     decl Int z (Some (int 0)) ∷
     directed Interchange [] (for_to i 0 (only
-        (for_declared Int j (int 0) (bin Lt (read j) (bin Div (int 1) (read z))) (up j) (print_all (read j ∷ []))))) ∷ [])
+    (for_declared Int j (int 0) (bin Lt (read j) (bin Div (int 1) (read z))) (up j) (print_all (read j ∷ []))))) ∷ [])
 
 -- #pragma omp fuse
 -- #pragma omp split counts(2, omp_fill)
@@ -113,8 +113,8 @@ square x = global Int x (exprs (int 4 ∷ int 4 ∷ [])) None
 abbrev tiled_matrix_product : Program
 tiled_matrix_product = square a ∷ square b ∷ square c ∷ main (list (
     for_to i 4 (only (for_to j 4 (list (
-        set (target a (at i j)) Plain (bin Add (read i) (read j)) ∷
-        set (target b (at i j)) Plain (bin Sub (read i) (read j)) ∷ [])))) ∷
+    set (target a (at i j)) Plain (bin Add (read i) (read j)) ∷
+    set (target b (at i j)) Plain (bin Sub (read i) (read j)) ∷ [])))) ∷
     directed Tile (sizes (exprs (int 2 ∷ int 2 ∷ int 2 ∷ [])) ∷ [])
     (for_to i 4 (only (for_to j 4 (only (for_to k 4 (only (set (target c (at i j)) assigned.Add (bin Mul (item a (at i k)) (item b (at k j)))))))))) ∷
     print (item c (exprs (int 0 ∷ int 0 ∷ []))) ∷ print (item c (exprs (int 3 ∷ int 3 ∷ []))) ∷ [])) ∷ []
@@ -132,6 +132,12 @@ pub record SeveralLoops : Type 0 where
       Prints tiles_of_two_loops
       (nats (0 ∷ 1 ∷ 10 ∷ 11 ∷ 20 ∷ 21 ∷ 2 ∷ 3 ∷ 12 ∷ 13 ∷ 22 ∷ 23 ∷ 4 ∷ 14 ∷ 24 ∷ 30 ∷ 31 ∷ 32 ∷ 33 ∷ 34 ∷ [])) 40
   pub permutation_of_three_loops : Prints permuted (nats (0 ∷ 100 ∷ 1 ∷ 101 ∷ 10 ∷ 110 ∷ 11 ∷ 111 ∷ 20 ∷ 120 ∷ 21 ∷ 121 ∷ [])) 21
+  -- #pragma omp interchange
+  -- for (int i = 0; i < 3; i++) for (int j = 0; j < 0; j++) print(10 * i + j);
+  pub interchange_of_an_empty_loop : Prints (only (directed Interchange [] (pairs 3 0))) [] 0
+  -- #pragma omp tile sizes(2, 2)
+  -- for (int i = 0; i < 3; i++) for (int j = 0; j < 0; j++) print(10 * i + j);
+  pub tile_round_an_empty_loop : Prints (only (directed Tile (sizes (exprs (int 2 ∷ int 2 ∷ [])) ∷ []) (pairs 3 0))) [] 2
   pub tile_of_reverse : Prints tiles_of_a_reversed_loop (nats (9 ∷ 8 ∷ 7 ∷ 6 ∷ 5 ∷ 4 ∷ 3 ∷ 2 ∷ 1 ∷ 0 ∷ [])) 13
   pub reverse_of_tile : Prints reversed_grid (nats (8 ∷ 9 ∷ 4 ∷ 5 ∷ 6 ∷ 7 ∷ 0 ∷ 1 ∷ 2 ∷ 3 ∷ [])) 13
   pub fuse_of_the_first_two : Prints first_two_fused (nats (0 ∷ 10 ∷ 1 ∷ 11 ∷ 2 ∷ 12 ∷ 13 ∷ 14 ∷ [])) 5

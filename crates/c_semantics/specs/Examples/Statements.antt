@@ -1,6 +1,6 @@
 -- Worked examples: expressions, statements and traps, without directives.
 use Rattle.std.specs.Prelude.{◌≡◌, [], ◌∷◌, Some, None, pos, negsuc, codes}
-use Rattle.c_tree.specs.Bare.{Name, no_exprs, read, item, un, bin, cond, target, decl, print, input, while_, block, empty, Stmts, global, main, for_, head, a_stmt}
+use Rattle.c_tree.specs.Bare.{Name, no_exprs, read, item, un, bin, cond, target, decl, print, input, while_, do_, if_else, block, empty, Stmts, global, main}
 use Rattle.c_tree.specs.declared.tree.Ty.TheVariants.{Int}
 use Rattle.c_tree.specs.declared.tree.UnOp.TheVariants.{Neg}
 use Rattle.c_tree.specs.declared.tree.BinOp.TheVariants.{Add, Sub, Div, Rem, Lt}
@@ -8,7 +8,8 @@ use Rattle.c_tree.specs.declared.tree.SetOp.TheVariants as assigned
 use Rattle.c_semantics.specs.Meaning.State.{scalar}
 use Rattle.c_semantics.specs.Meaning.Arithmetic.{Overflow, DivideByZero, Unset, Narrow, Index, InputEnd}
 use Rattle.c_semantics.specs.Meaning.Programs.{Ended, Stopped, CutOff, outcome}
-use Rattle.c_semantics.specs.Examples.Notation.{int, long, exprs, list, only, assign, up, for_declared, for_to, print_all, in_main, Does, Prints, Traps, nats}
+use Rattle.c_semantics.specs.Structure.Parts.{round, leaf, shapes_of, While, Do, Set, Step}
+use Rattle.c_semantics.specs.Examples.Notation.{int, long, exprs, list, only, assign, up, for_declared, for_to, print_all, in_main, Does, Prints, Traps, nats, p, HasLoops}
 
 abbrev x : Name
 x = codes "x"
@@ -32,6 +33,15 @@ abbrev head_reads_itself : Stmts
 head_reads_itself = list (
     decl Int i (Some (int 3)) ∷
     for_declared Int i (read i) (bin Lt (read i) (int 5)) (up i) (only empty) ∷ [])
+
+-- while (1) print(1); do print(2); while (1); do print(3); while (0);
+-- if (1) { print(4); } else { print(5); }
+-- { int x = 6; x += 1; x++; }
+abbrev nested_statements : Stmts
+nested_statements = list (
+    while_ (int 1) (print_all (int 1 ∷ [])) ∷ do_ (print_all (int 2 ∷ [])) (int 1) ∷ do_ (print_all (int 3 ∷ [])) (int 0) ∷
+    if_else (int 1) (print_all (int 4 ∷ [])) (print_all (int 5 ∷ [])) ∷
+    block (list (decl Int x (Some (int 6)) ∷ assign x assigned.Add (int 1) ∷ up x ∷ [])) ∷ [])
 
 pub record Statements : Type 0 where
   -- for (int i = 0; i < 20; i++) print(i); for (int i = 0; i < 30; i++) for (int j = 0; j < 30; j++) ;
@@ -69,5 +79,8 @@ pub record Statements : Type 0 where
   pub file_variables_at_the_end :
       outcome 100 (global Int x no_exprs (Some (int 5)) ∷ main (only (assign x assigned.Add (int 2))) ∷ []) [] ≡
       record { lines = []; globals = record { name = x; cell = scalar Int (Some (pos 7)) } ∷ []; input = []; end = Ended }
+  pub loops_and_leaves :
+      HasLoops nested_statements
+      (round While (shapes_of (p ∷ [])) ∷ round Do (shapes_of (p ∷ [])) ∷ p ∷ p ∷ p ∷ leaf Set ∷ leaf Step ∷ [])
   -- print(3); while (1) ;
   pub endless_loop : Does 10 (in_main (list (print (int 3) ∷ while_ (int 1) (only empty) ∷ []))) (nats (3 ∷ [])) CutOff 0

@@ -6,6 +6,8 @@ pub returns : goal.returns
 returns c = record {
   tile_of_two_loops = refl;
   permutation_of_three_loops = refl;
+  interchange_of_an_empty_loop = refl;
+  tile_round_an_empty_loop = refl;
   tile_of_reverse = refl;
   reverse_of_tile = refl;
   fuse_of_the_first_two = refl;

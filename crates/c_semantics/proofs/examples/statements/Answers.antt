@@ -19,5 +19,6 @@ returns c = record {
   input_ends = refl;
   input_does_not_fit = refl;
   file_variables_at_the_end = refl;
+  loops_and_leaves = refl;
   endless_loop = refl;
 }
