@@ -1,4 +1,4 @@
--- Canonical loops (OpenMP 6.0, canonical loop nest form): the variable, the bounds, the test and the step that a head
+-- Canonical loops (OpenMP 6.0, 6.4.1, canonical loop nest form): the variable, the bounds, the test and the step that a head
 -- is written with.
 use Rattle.std.specs.Prelude.{zero, suc, ◌^◌, Option, Some, None, Bool, true, false, ◌&&◌, ◌==◌, ℤ, pos, negsuc, neg_ℤ, nat_abs, nat_lt, if◌then◌else◌, bytes_eq, List}
 use Rattle.c_tree.specs.Bare.{Name, Expr, read, bin, no_exprs, target, decl, set, step, Head, head, MaybeStmt, a_stmt}

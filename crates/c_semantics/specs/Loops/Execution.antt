@@ -1,4 +1,4 @@
--- How the iterations of a construct run (OpenMP 6.0: execution of the generated loops).
+-- How the iterations of a construct run (OpenMP 6.0, 11: execution of the generated loops).
 use Rattle.std.specs.Prelude.{ℕ, zero, suc, List, [], ◌∷◌, Option, Some, None, Result, ℤ, slice_get}
 use Rattle.c_tree.specs.Bare.{Name}
 use Rattle.c_tree.specs.declared.tree.Ty.{Ty}

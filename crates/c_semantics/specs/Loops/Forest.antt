@@ -1,5 +1,5 @@
--- The iterations of a construct: its source loops, fixed at its entry, and what its directives make of them (OpenMP 6.0:
--- the counts of all affected loops are taken before the outermost one).
+-- The iterations of a construct: its source loops, fixed at its entry, and what its directives make of them (OpenMP 6.0,
+-- 11: the counts of all affected loops are taken before the outermost one).
 use Rattle.std.specs.Prelude.{ℕ, zero, suc, ◌+◌, List, [], ◌∷◌, ◌++◌, Option, Some, None, Result, Ok, Err}
 use Rattle.c_tree.specs.Bare.{Stmt, for_, block, omp, Stmts, no_stmts, more_stmts, Directive}
 use Rattle.c_semantics.specs.Meaning.State.{State}

@@ -1,5 +1,4 @@
--- The logical iterations of a loop nest (OpenMP 6.0, canonical loop nest form) in their order, as trees: what a
--- construct runs.
+-- The logical iterations of a loop nest (OpenMP 6.0, 6.4.1) in their order, as trees: what a construct runs.
 use Rattle.std.specs.Prelude.{ℕ, zero, suc, List, [], ◌∷◌, ◌++◌, map, length, ℤ, get_or, if◌then◌else◌, ◌==◌}
 
 mutual

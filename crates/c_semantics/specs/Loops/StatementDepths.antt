@@ -1,6 +1,6 @@
--- How many nested loops a statement gives to a directive round it (OpenMP 6.0, canonical loop nest form: perfectly
--- nested loops; canonical loop sequence form for `fuse`). A list that holds only one block is read as that
--- block's list, wherever a loop is looked for.
+-- How many nested loops a statement gives to a directive round it (OpenMP 6.0, 6.4: canonical loop nests, and for `fuse`
+-- canonical loop sequences). A list that holds only one block is read as that block's list, wherever a loop is looked
+-- for.
 use Rattle.std.specs.Prelude.{ℕ, suc, List, [], ◌∷◌, ◌++◌, Option, Some, None}
 use Rattle.c_tree.specs.Bare.{Directive, directive, Stmt, for_, block, omp, Stmts, no_stmts, more_stmts}
 use Rattle.c_tree.specs.declared.tree.Kind.{Kind}

@@ -1,5 +1,5 @@
--- The loops and the copies of a body that directives ask for (OpenMP 6.0, the generated loops of each loop-transforming
--- construct), without the order of iterations.
+-- The loops and the copies of a body that directives ask for (OpenMP 6.0, 11: the generated loops of each
+-- loop-transforming construct), without the order of iterations.
 use Rattle.std.specs.Prelude.{ℕ, zero, suc, ◌+◌, ◌-◌, ◌%◌, min, max, List, [], ◌∷◌, ◌++◌, map, length, take, drop, Option, Some, None, ◌==◌, nat_le, get_or, flat_map, if◌then◌else◌}
 use Rattle.c_semantics.specs.Loops.Transformations.{Transformation, tile, interchange, reverse_, split, fuse, unroll_full, unroll_partial, Plan, plan, Applied, none_applied, applied_at, div_up, known_counts, filled, any_zero}
 
