@@ -114,7 +114,7 @@ module _ (R : State → State → Type 0) (kept : Kept R) where
 
   pub copies_keep : (xs : List (Name × Ty)) (zs : List ℤ) (s : State) → R s (push_copies xs zs s)
   copies_keep [] zs s = kept.same s
-  copies_keep (x ∷ xs) [] s = kept.same s
+  copies_keep (x ∷ xs) [] s = kept.then_ s _ _ (kept.pushed x.0 (scalar x.1 None) s) (copies_keep xs [] (push x.0 (scalar x.1 None) s))
   copies_keep (x ∷ xs) (z ∷ zs) s = kept.then_ s _ _ (kept.pushed x.0 (scalar x.1 (Some z)) s) (copies_keep xs zs (push x.0 (scalar x.1 (Some z)) s))
 
   body_keeps : (b : Option Body) (zs : List ℤ) → BodyKeeps b → Keeps (run_body b zs)

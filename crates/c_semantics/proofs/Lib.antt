@@ -1,9 +1,14 @@
 pub mod Invariant
 pub mod Grows
+pub mod FrameNames
+pub mod ScopeNames
 pub mod Later
 pub mod Programs
 pub mod Evals
+pub mod Touches
 pub mod Entries
 pub mod Simulation
+pub mod Depths
+pub mod LeastNeed
 pub mod Apart
-pub mod Uses
+pub mod FileVariables

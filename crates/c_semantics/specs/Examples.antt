@@ -5,3 +5,5 @@ pub mod SeveralLoops
 pub mod ApplyClause
 pub mod Statements
 pub mod Functions
+pub mod Depths
+pub mod FileVariables

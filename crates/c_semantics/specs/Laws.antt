@@ -2,3 +2,4 @@
 pub mod Bounds
 pub mod Names
 pub mod Apart
+pub mod LeastNeed

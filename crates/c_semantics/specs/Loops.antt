@@ -7,3 +7,4 @@ pub mod Directives
 pub mod Need
 pub mod Forest
 pub mod Execution
+pub mod StatementDepths

@@ -6,3 +6,4 @@ pub mod Runs
 pub mod SimpleStatements
 pub mod Statements
 pub mod Programs
+pub mod FileVariables

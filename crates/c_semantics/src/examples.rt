@@ -2,6 +2,8 @@
 //! constructs ask for.
 
 ghost use Rattle.c_semantics.specs.Examples.ApplyClause.{ApplyClause};
+ghost use Rattle.c_semantics.specs.Examples.Depths.{Depths};
+ghost use Rattle.c_semantics.specs.Examples.FileVariables.{FileVariables};
 ghost use Rattle.c_semantics.specs.Examples.Functions.{Functions};
 ghost use Rattle.c_semantics.specs.Examples.OneLoop.{OneLoop};
 ghost use Rattle.c_semantics.specs.Examples.SeveralLoops.{SeveralLoops};
@@ -30,4 +32,14 @@ pub fn statements()
 /// Calls of functions, and constructs in functions.
 pub fn functions()
     ensures { Functions }
+{}
+
+/// The loops that directives need of their bodies, and the depths of the nests that they give.
+pub fn depths()
+    ensures { Depths }
+{}
+
+/// The file-scope variables that functions may read and may assign.
+pub fn file_variables()
+    ensures { FileVariables }
 {}

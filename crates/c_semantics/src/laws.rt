@@ -1,7 +1,8 @@
 //! Laws of runs.
 
 ghost use Rattle.c_semantics.specs.Laws.Bounds.{LinesGrow, OutcomeStays};
-ghost use Rattle.c_semantics.specs.Laws.Apart.{RunsWithoutGlobal, RunsWithoutLocal};
+ghost use Rattle.c_semantics.specs.Laws.LeastNeed.{LeastNeed};
+ghost use Rattle.c_semantics.specs.Laws.Apart.{RunsWithoutGlobal, RunsWithoutLocal, RunsWithoutUntouched};
 
 /// An outcome that isn't cut off is the outcome at every greater bound, with the same turns of `for` loops.
 pub fn greater_bounds()
@@ -22,4 +23,16 @@ pub fn unnamed_variable()
 /// run alike.
 pub fn unnamed_file_variable()
     ensures { RunsWithoutGlobal }
+{}
+
+/// Statements run alike with and without a file-scope variable that they don't name, and that is neither among those that
+/// a function which they call may read nor among those that it may assign.
+pub fn untouched_file_variable()
+    ensures { RunsWithoutUntouched }
+{}
+
+/// What a directive asks of its body is the least number of loops with which each of its items finds the loops that it
+/// takes and each of its parts is as deep as is wanted, and none where there is no such number.
+pub fn least_need()
+    ensures { LeastNeed }
 {}

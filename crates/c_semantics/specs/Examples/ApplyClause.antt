@@ -25,7 +25,9 @@ counting b = for_to i b (print_all (read i ∷ []))
 -- for (int i = 0; i < 3; i++) for (int j = 0; j < 3; j++) print(10 * i + j);
 abbrev reverse_and_interchange : Stmts
 reverse_and_interchange = only (directed Tile
-    (sizes (exprs (int 2 ∷ int 2 ∷ [])) ∷ applied_to grid (nothing ∷ item_of Reverse [] ∷ []) ∷ applied_to intratile (item_of Interchange [] ∷ []) ∷ [])
+    (sizes (exprs (int 2 ∷ int 2 ∷ [])) ∷
+    applied_to grid (nothing ∷ item_of Reverse [] ∷ []) ∷
+    applied_to intratile (item_of Interchange [] ∷ []) ∷ [])
     (for_to i 3 (only (for_to j 3 (print_all (bin Add (bin Mul (int 10) (read i)) (read j) ∷ []))))))
 
 -- #pragma omp tile sizes(4) apply(intratile: ITEM)

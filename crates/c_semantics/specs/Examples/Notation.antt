@@ -5,6 +5,7 @@ use Rattle.c_tree.specs.declared.tree.Ty.{Ty}
 use Rattle.c_tree.specs.declared.tree.Ty.TheVariants.{Int, Long}
 use Rattle.c_tree.specs.declared.tree.BinOp.TheVariants.{Lt}
 use Rattle.c_tree.specs.declared.tree.SetOp.{SetOp}
+use Rattle.c_tree.specs.declared.tree.SetOp.TheVariants.{Plain}
 use Rattle.c_tree.specs.declared.tree.Kind.{Kind}
 use Rattle.c_semantics.specs.Meaning.Arithmetic.{Trap}
 use Rattle.c_semantics.specs.Meaning.Runs.{Run}
@@ -39,9 +40,17 @@ assign x o e = set (target x no_exprs) o e
 abbrev pub up : Name → Stmt
 up x = step (target x no_exprs) true
 
+-- for (t x = a; test; last) body
+abbrev pub for_declared : Ty → Name → Expr → Expr → Stmt → Stmts → Stmt
+for_declared t x a test last body = for_ (head (a_stmt (decl t x (Some a))) (Some test) (a_stmt last)) body
+
+-- for (x = a; test; last) body
+abbrev pub for_assigned : Name → Expr → Expr → Stmt → Stmts → Stmt
+for_assigned x a test last body = for_ (head (a_stmt (assign x Plain a)) (Some test) (a_stmt last)) body
+
 -- for (int x = a; x < b; x++) body
 abbrev pub for_from : Name → ℕ → ℕ → Stmts → Stmt
-for_from x a b body = for_ (head (a_stmt (decl Int x (Some (int a)))) (Some (bin Lt (read x) (int b))) (a_stmt (up x))) body
+for_from x a b body = for_declared Int x (int a) (bin Lt (read x) (int b)) (up x) body
 
 -- for (int x = 0; x < b; x++) body
 abbrev pub for_to : Name → ℕ → Stmts → Stmt

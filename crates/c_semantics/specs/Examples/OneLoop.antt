@@ -1,6 +1,6 @@
 -- Worked examples: constructs over one loop.
 use Rattle.std.specs.Prelude.{ℕ, [], ◌∷◌, Some, pos, negsuc, codes}
-use Rattle.c_tree.specs.Bare.{Name, read, bin, un, fill, given, counts, partial, sizes, Stmt, decl, print, if_, for_, continue_, Stmts, head, a_stmt}
+use Rattle.c_tree.specs.Bare.{Name, read, bin, un, fill, given, counts, partial, sizes, Stmt, decl, print, if_, continue_, Stmts}
 use Rattle.c_tree.specs.declared.tree.Ty.TheVariants.{Int, Long}
 use Rattle.c_tree.specs.declared.tree.UnOp.TheVariants.{Neg}
 use Rattle.c_tree.specs.declared.tree.BinOp.TheVariants.{Add, Sub, Rem, Lt, Le, Ne, Eq}
@@ -8,7 +8,7 @@ use Rattle.c_tree.specs.declared.tree.SetOp.TheVariants as assigned
 use Rattle.c_tree.specs.declared.tree.Kind.TheVariants.{Tile, Unroll, Reverse, Split}
 use Rattle.c_semantics.specs.Meaning.Arithmetic.{Overflow}
 use Rattle.c_semantics.specs.Meaning.Programs.{Stopped, CutOff}
-use Rattle.c_semantics.specs.Examples.Notation.{int, long, exprs, list, only, assign, up, for_from, for_to, print_all, directed, in_main, unbounded, Does, Prints, nats, f, p, HasLoops}
+use Rattle.c_semantics.specs.Examples.Notation.{int, long, exprs, list, only, assign, up, for_declared, for_assigned, for_from, for_to, print_all, directed, in_main, unbounded, Does, Prints, nats, f, p, HasLoops}
 
 abbrev i : Name
 i = codes "i"
@@ -45,15 +45,17 @@ unrolled_by_three = only (directed Unroll (partial (Some (int 3)) ∷ [])
 -- for (int i = -2147483647 - 1; i <= 2147483647; i += 1073741824) print(i);
 abbrev whole_range_of_int : Stmts
 whole_range_of_int = only (directed Reverse []
-    (for_ (head (a_stmt (decl Int i (Some (bin Sub (un Neg (int 2147483647)) (int 1))))) (Some (bin Le (read i) (int 2147483647))) (a_stmt (assign i assigned.Add (int 1073741824))))
+    (for_declared Int i (bin Sub (un Neg (int 2147483647)) (int 1)) (bin Le (read i) (int 2147483647)) (assign i assigned.Add (int 1073741824))
     (print_all (read i ∷ []))))
 
 -- print(1);
 -- #pragma omp tile sizes(2)
 -- for (long long i = -9223372036854775807LL - 1LL; i <= 9223372036854775807LL; i++) print(i);
 abbrev too_many_turns : Stmts
-too_many_turns = list (print (int 1) ∷ directed Tile (sizes (exprs (int 2 ∷ [])) ∷ [])
-    (for_ (head (a_stmt (decl Long i (Some (bin Sub (un Neg (long 9223372036854775807)) (long 1))))) (Some (bin Le (read i) (long 9223372036854775807))) (a_stmt (up i)))
+too_many_turns = list (
+    print (int 1) ∷
+    directed Tile (sizes (exprs (int 2 ∷ [])) ∷ [])
+    (for_declared Long i (bin Sub (un Neg (long 9223372036854775807)) (long 1)) (bin Le (read i) (long 9223372036854775807)) (up i)
     (print_all (read i ∷ []))) ∷ [])
 
 -- int omp_t0 = 9; int i = 9;
@@ -61,20 +63,22 @@ too_many_turns = list (print (int 1) ∷ directed Tile (sizes (exprs (int 2 ∷ 
 -- for (i = 0; i < 2; i++) print(i + omp_t0);
 -- print(i);
 abbrev private_variable : Stmts
-private_variable = list (decl Int fresh_looking (Some (int 9)) ∷ decl Int i (Some (int 9)) ∷ directed Reverse []
-    (for_ (head (a_stmt (assign i assigned.Plain (int 0))) (Some (bin Lt (read i) (int 2))) (a_stmt (up i))) (print_all (bin Add (read i) (read fresh_looking) ∷ []))) ∷ print (read i) ∷ [])
+private_variable = list (
+    decl Int fresh_looking (Some (int 9)) ∷ decl Int i (Some (int 9)) ∷
+    directed Reverse [] (for_assigned i (int 0) (bin Lt (read i) (int 2)) (up i) (print_all (bin Add (read i) (read fresh_looking) ∷ []))) ∷
+    print (read i) ∷ [])
 
 -- #pragma omp reverse
 -- for (int i = 7; 3 < i; i = i - 2) print(i);
 abbrev downward : Stmts
 downward = only (directed Reverse []
-    (for_ (head (a_stmt (decl Int i (Some (int 7)))) (Some (bin Lt (int 3) (read i))) (a_stmt (assign i assigned.Plain (bin Sub (read i) (int 2))))) (print_all (read i ∷ []))))
+    (for_declared Int i (int 7) (bin Lt (int 3) (read i)) (assign i assigned.Plain (bin Sub (read i) (int 2))) (print_all (read i ∷ []))))
 
 -- #pragma omp reverse
--- for (int i = 3; i != 0; i--) print(i);
+-- for (int i = 3; i != 0; i -= 1) print(i);
 abbrev until_unequal : Stmts
 until_unequal = only (directed Reverse []
-    (for_ (head (a_stmt (decl Int i (Some (int 3)))) (Some (bin Ne (read i) (int 0))) (a_stmt (assign i assigned.Sub (int 1)))) (print_all (read i ∷ []))))
+    (for_declared Int i (int 3) (bin Ne (read i) (int 0)) (assign i assigned.Sub (int 1)) (print_all (read i ∷ []))))
 
 pub record OneLoop : Type 0 where
   pub reversed_loop : Prints reversed (nats (4 ∷ 3 ∷ 2 ∷ 1 ∷ 0 ∷ [])) 5
@@ -84,10 +88,12 @@ pub record OneLoop : Type 0 where
   pub partial_last_tile : Prints tiled_by_four (nats (0 ∷ 1 ∷ 2 ∷ 3 ∷ 4 ∷ 5 ∷ 6 ∷ 7 ∷ 8 ∷ 9 ∷ [])) 13
   pub split_clipped_at_the_count : Prints split_in_three (nats (0 ∷ 1 ∷ 2 ∷ 3 ∷ [])) 4
   pub continue_ends_one_copy : Prints unrolled_by_three (nats (0 ∷ 2 ∷ 4 ∷ 6 ∷ [])) 3
-  pub variable_from_least_to_greatest_int : Prints whole_range_of_int (pos 1073741824 ∷ pos 0 ∷ negsuc 1073741823 ∷ negsuc 2147483647 ∷ []) 4
+  pub variable_from_least_to_greatest_int :
+      Prints whole_range_of_int (pos 1073741824 ∷ pos 0 ∷ negsuc 1073741823 ∷ negsuc 2147483647 ∷ []) 4
   pub count_beyond_the_range : Does unbounded (in_main too_many_turns) (nats (1 ∷ [])) (Stopped Overflow) 0
   pub earlier_variable_keeps_its_value : Prints private_variable (nats (10 ∷ 9 ∷ 9 ∷ [])) 2
   pub cut_at_the_fourth_turn : Does 3 (in_main reversed) (nats (4 ∷ 3 ∷ 2 ∷ [])) CutOff 3
+  pub cut_in_a_tile : Does 3 (in_main tiled_by_four) (nats (0 ∷ 1 ∷ 2 ∷ [])) CutOff 4
   pub loops_of_reverse : HasLoops reversed (f (p ∷ []) ∷ [])
   pub loops_of_tile : HasLoops tiled_by_four (f (f (p ∷ []) ∷ []) ∷ [])
   pub loops_of_split : HasLoops split_in_three (f (p ∷ []) ∷ f (p ∷ []) ∷ f (p ∷ []) ∷ [])

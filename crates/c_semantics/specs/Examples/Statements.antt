@@ -1,14 +1,15 @@
 -- Worked examples: expressions, statements and traps, without directives.
 use Rattle.std.specs.Prelude.{◌≡◌, [], ◌∷◌, Some, None, pos, negsuc, codes}
-use Rattle.c_tree.specs.Bare.{Name, no_exprs, read, item, un, bin, cond, target, decl, print, input, while_, block, empty, Stmts, global, main, for_, head, a_stmt}
+use Rattle.c_tree.specs.Bare.{Name, no_exprs, read, item, un, bin, cond, target, decl, print, input, while_, do_, if_else, block, empty, Stmts, global, main}
 use Rattle.c_tree.specs.declared.tree.Ty.TheVariants.{Int}
 use Rattle.c_tree.specs.declared.tree.UnOp.TheVariants.{Neg}
-use Rattle.c_tree.specs.declared.tree.BinOp.TheVariants.{Add, Div, Rem, Lt}
+use Rattle.c_tree.specs.declared.tree.BinOp.TheVariants.{Add, Sub, Div, Rem, Lt}
 use Rattle.c_tree.specs.declared.tree.SetOp.TheVariants as assigned
 use Rattle.c_semantics.specs.Meaning.State.{scalar}
 use Rattle.c_semantics.specs.Meaning.Arithmetic.{Overflow, DivideByZero, Unset, Narrow, Index, InputEnd}
 use Rattle.c_semantics.specs.Meaning.Programs.{Ended, Stopped, CutOff, outcome}
-use Rattle.c_semantics.specs.Examples.Notation.{int, long, exprs, list, only, assign, for_to, print_all, in_main, Does, Prints, Traps, nats}
+use Rattle.c_semantics.specs.Structure.Parts.{round, leaf, shapes_of, While, Do, Set, Step}
+use Rattle.c_semantics.specs.Examples.Notation.{int, long, exprs, list, only, assign, up, for_declared, for_to, print_all, in_main, Does, Prints, Traps, nats, p, HasLoops}
 
 abbrev x : Name
 x = codes "x"
@@ -29,7 +30,18 @@ reads_itself = list (decl Int x (Some (int 3)) ∷ block (only (decl Int x (Some
 
 -- int i = 3; for (int i = i; i < 5; i++) ;
 abbrev head_reads_itself : Stmts
-head_reads_itself = list (decl Int i (Some (int 3)) ∷ for_ (head (a_stmt (decl Int i (Some (read i)))) (Some (bin Lt (read i) (int 5))) (a_stmt (assign i assigned.Add (int 1)))) (only empty) ∷ [])
+head_reads_itself = list (
+    decl Int i (Some (int 3)) ∷
+    for_declared Int i (read i) (bin Lt (read i) (int 5)) (up i) (only empty) ∷ [])
+
+-- while (1) print(1); do print(2); while (1); do print(3); while (0);
+-- if (1) { print(4); } else { print(5); }
+-- { int x = 6; x += 1; x++; }
+abbrev nested_statements : Stmts
+nested_statements = list (
+    while_ (int 1) (print_all (int 1 ∷ [])) ∷ do_ (print_all (int 2 ∷ [])) (int 1) ∷ do_ (print_all (int 3 ∷ [])) (int 0) ∷
+    if_else (int 1) (print_all (int 4 ∷ [])) (print_all (int 5 ∷ [])) ∷
+    block (list (decl Int x (Some (int 6)) ∷ assign x assigned.Add (int 1) ∷ up x ∷ [])) ∷ [])
 
 pub record Statements : Type 0 where
   -- for (int i = 0; i < 20; i++) print(i); for (int i = 0; i < 30; i++) for (int j = 0; j < 30; j++) ;
@@ -52,15 +64,23 @@ pub record Statements : Type 0 where
   pub division_toward_zero : Prints (print_all (bin Div (un Neg (int 7)) (int 2) ∷ bin Rem (un Neg (int 7)) (int 2) ∷ [])) (negsuc 2 ∷ negsuc 0 ∷ []) 0
   -- print(1 % 0);
   pub remainder_by_zero : Traps (print_all (bin Rem (int 1) (int 0) ∷ [])) [] DivideByZero
+  -- print((-2147483647 - 1) % -1);
+  pub remainder_of_the_least_int : Traps (print_all (bin Rem (bin Sub (un Neg (int 2147483647)) (int 1)) (un Neg (int 1)) ∷ [])) [] Overflow
   -- int a[2]; int main(void) { print(a[2]); }
-  pub subscript_past_the_end : Does 100 (global Int x (exprs (int 2 ∷ [])) None ∷ main (print_all (item x (exprs (int 2 ∷ [])) ∷ [])) ∷ []) [] (Stopped Index) 0
+  pub subscript_past_the_end :
+      Does 100 (global Int x (exprs (int 2 ∷ [])) None ∷ main (print_all (item x (exprs (int 2 ∷ [])) ∷ [])) ∷ []) [] (Stopped Index) 0
   -- with the input 21
-  pub input_ends : outcome 100 (in_main doubled_input) (pos 21 ∷ []) ≡ record { lines = pos 42 ∷ []; globals = []; input = []; end = Stopped InputEnd }
+  pub input_ends :
+      outcome 100 (in_main doubled_input) (pos 21 ∷ []) ≡ record { lines = pos 42 ∷ []; globals = []; input = []; end = Stopped InputEnd }
   -- with the input 4000000000: the number is taken
-  pub input_does_not_fit : outcome 100 (in_main doubled_input) (pos 4000000000 ∷ []) ≡ record { lines = []; globals = []; input = []; end = Stopped Narrow }
+  pub input_does_not_fit :
+      outcome 100 (in_main doubled_input) (pos 4000000000 ∷ []) ≡ record { lines = []; globals = []; input = []; end = Stopped Narrow }
   -- int x = 5; int main(void) { x += 2; }
   pub file_variables_at_the_end :
       outcome 100 (global Int x no_exprs (Some (int 5)) ∷ main (only (assign x assigned.Add (int 2))) ∷ []) [] ≡
       record { lines = []; globals = record { name = x; cell = scalar Int (Some (pos 7)) } ∷ []; input = []; end = Ended }
+  pub loops_and_leaves :
+      HasLoops nested_statements
+      (round While (shapes_of (p ∷ [])) ∷ round Do (shapes_of (p ∷ [])) ∷ p ∷ p ∷ p ∷ leaf Set ∷ leaf Step ∷ [])
   -- print(3); while (1) ;
   pub endless_loop : Does 10 (in_main (list (print (int 3) ∷ while_ (int 1) (only empty) ∷ []))) (nats (3 ∷ [])) CutOff 0

@@ -1,10 +1,12 @@
 -- Running with and without a variable that isn't named.
-use Rattle.std.specs.Prelude.{◌≡◌, ℕ, List, ◌∷◌, length, Option, Some, None, false, bytes_eq}
-use Rattle.c_tree.specs.Bare.{Name, Stmt}
+use Rattle.std.specs.Prelude.{◌≡◌, ℕ, List, ◌∷◌, length, Option, Some, None, false, bytes_eq, IsFalse}
+use Rattle.c_tree.specs.Bare.{Name, Stmt, Program}
 use Rattle.c_semantics.specs.Meaning.State.{Var, State, with_frame, with_globals}
 use Rattle.c_semantics.specs.Meaning.Runs.{Run, Meaning}
 use Rattle.c_semantics.specs.Meaning.SimpleStatements.{Function, Env, function_named, in_frame}
 use Rattle.c_semantics.specs.Meaning.Statements.{exec}
+use Rattle.c_semantics.specs.Meaning.Programs.{env_after, no_env}
+use Rattle.c_semantics.specs.Meaning.FileVariables.{has_name, may_read, may_assign}
 use Rattle.c_semantics.specs.Laws.Names.{Uses}
 
 -- two names
@@ -49,3 +51,14 @@ RunsWithoutGlobal =
     (n : ℕ) (env : Env) (v : Var) (k : ℕ) (a : Stmt) →
     Uses (λ y. Differ y v.name) (λ f. FunctionAlike (BesideInFile v k) (function_named f env.functions)) a →
     Alike (BesideInFile v k) (exec n env a) (exec n env a)
+
+-- a variable is neither among those that a function may read nor among those that it may assign
+abbrev pub IsUntouched : Program → Name → Name → Type 0
+IsUntouched p x f = IsFalse (has_name (may_read p f) x) × IsFalse (has_name (may_assign p f) x)
+
+-- and with and without a variable of the file that they don't name, and that is neither among the variables that a
+-- function which they call may read nor among those that it may assign; p are the items that stand before
+abbrev pub RunsWithoutUntouched : Type 0
+RunsWithoutUntouched =
+    (n : ℕ) (p : Program) (v : Var) (k : ℕ) (a : Stmt) → Uses (λ y. Differ y v.name) (IsUntouched p v.name) a →
+    Alike (BesideInFile v k) (exec n (env_after n no_env p) a) (exec n (env_after n no_env p) a)

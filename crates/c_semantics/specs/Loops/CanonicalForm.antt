@@ -1,4 +1,4 @@
--- Canonical loops (OpenMP 6.0, canonical loop nest form): the variable, the bounds, the test and the step that a head
+-- Canonical loops (OpenMP 6.0, 6.4.1, canonical loop nest form): the variable, the bounds, the test and the step that a head
 -- is written with.
 use Rattle.std.specs.Prelude.{zero, suc, ◌^◌, Option, Some, None, Bool, true, false, ◌&&◌, ◌==◌, ℤ, pos, negsuc, neg_ℤ, nat_abs, nat_lt, if◌then◌else◌, bytes_eq, List}
 use Rattle.c_tree.specs.Bare.{Name, Expr, read, bin, no_exprs, target, decl, set, step, Head, head, MaybeStmt, a_stmt}
@@ -102,7 +102,9 @@ is_step_for o z = fits_test o z && nat_lt (nat_abs z) (2 ^ 63)
 
 abbrev pub with_step : Init → Test → Option ℤ → Option Canonical
 with_step i t None = None
-with_step i t (Some z) = if is_step_for t.op z then Some (record { var = i.var; ty = i.ty; lb = i.lb; ub = t.ub; test = t.op; step = z }) else None
+with_step i t (Some z) =
+    if is_step_for t.op z then Some (record { var = i.var; ty = i.ty; lb = i.lb; ub = t.ub; test = t.op; step = z })
+    else None
 
 abbrev pub with_test : List Define → MaybeStmt → Init → Option Test → Option Canonical
 with_test ds m i None = None

@@ -1,4 +1,4 @@
--- What a written directive says (OpenMP 6.0, the clauses of the loop-transforming constructs): its transformation, with
+-- What a written directive says (OpenMP 6.0, 11, the clauses of the loop-transforming constructs): its transformation, with
 -- the values of the arguments, and the items of its `apply` clauses by position.
 use Rattle.std.specs.Prelude.{ℕ, ◌+◌, List, [], ◌∷◌, map, length, Option, Some, None, Bool, true, false, pos, nat_abs, nat_lt, bytes_eq, unwrap_or, codes, if◌then◌else◌}
 use Rattle.c_tree.specs.Bare.{Name, Expr, expr_list, Count, fill, given, Directive, directive, Clauses, no_clauses, more_clauses, Clause, sizes, permutation, counts, looprange, full, partial, apply, Items, no_items, more_items, Item, nothing, acts}

@@ -1,4 +1,4 @@
--- How the iterations of a construct run (OpenMP 6.0: execution of the generated loops).
+-- How the iterations of a construct run (OpenMP 6.0, 11: execution of the generated loops).
 use Rattle.std.specs.Prelude.{ℕ, zero, suc, List, [], ◌∷◌, Option, Some, None, Result, ℤ, slice_get}
 use Rattle.c_tree.specs.Bare.{Name}
 use Rattle.c_tree.specs.declared.tree.Ty.{Ty}
@@ -15,10 +15,10 @@ pub record Body : Type 0 where
   pub vars : List (Name × Ty)
   pub run : Meaning
 
--- private copies of the variables with their values, the outermost first
+-- private copies of the variables with their values, the outermost first; one without a value is unset
 abbrev pub push_copies : List (Name × Ty) → List ℤ → State → State
 push_copies [] zs s = s
-push_copies (x ∷ xs) [] s = s
+push_copies (x ∷ xs) [] s = push_copies xs [] (push x.0 (scalar x.1 None) s)
 push_copies (x ∷ xs) (z ∷ zs) s = push_copies xs zs (push x.0 (scalar x.1 (Some z)) s)
 
 -- the copies, the statements as a block, where `continue` ends this iteration, and the copies are dropped

@@ -1,4 +1,4 @@
--- The iterations of a loop nest in their order, as trees: what a construct runs.
+-- The logical iterations of a loop nest (OpenMP 6.0, 6.4.1) in their order, as trees: what a construct runs.
 use Rattle.std.specs.Prelude.{ℕ, zero, suc, List, [], ◌∷◌, ◌++◌, map, length, ℤ, get_or, if◌then◌else◌, ◌==◌}
 
 mutual
@@ -87,6 +87,10 @@ abbrev mutual
   pub all_leaves : Trees → List (ℕ × List ℤ)
   all_leaves no_trees = []
   all_leaves (more_trees t ts) = leaves t ++ all_leaves ts
+
+-- of trees one after another
+abbrev pub forest_leaves : List Tree → List (ℕ × List ℤ)
+forest_leaves ts = all_leaves (of_list ts)
 
 abbrev mutual
   -- a value before the values of every body

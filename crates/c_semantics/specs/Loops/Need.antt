@@ -1,5 +1,6 @@
--- How many loops a directive needs of its body. A directive gives parts, each a nest of so many loops (its depth); a
--- directive round it may take those loops.
+-- How many loops a directive needs of its body (OpenMP 6.0, 11: the loops that a loop-transforming construct takes and
+-- generates). A directive gives parts, each a nest of so many loops, which is its depth; the loops below those that it
+-- takes stay part of the nest. A directive round it may take those loops, and so may the items of `apply`.
 use Rattle.std.specs.Prelude.{ℕ, zero, suc, ◌+◌, ◌-◌, List, [], ◌∷◌, ◌++◌, length, take, drop, replicate, Option, Some, None, Bool, true, false, ◌&&◌, nat_le, get_or, if◌then◌else◌, unwrap_or}
 use Rattle.c_semantics.specs.Loops.Transformations.{Transformation, tile, interchange, split, fuse, unroll_full, unroll_partial, Plan, plan, Applied, none_applied, applied_at}
 

@@ -1,5 +1,6 @@
--- What each loop-transforming construct of OpenMP 6.0 makes of iterations: tile, unroll, interchange, reverse, split and
--- fuse; and the clause `apply`, which puts directives on the loops that a construct gives.
+-- What each loop-transforming construct makes of iterations: fuse, interchange, reverse, split, tile and unroll (OpenMP
+-- 6.0, 11.3, 11.4, 11.5, 11.6, 11.8, 11.9); and the clause `apply` (11.1), which puts directives on the loops that a
+-- construct gives.
 use Rattle.std.specs.Prelude.{ℕ, zero, suc, ◌+◌, ◌*◌, ◌-◌, ◌/◌, ◌%◌, min, max, List, [], ◌∷◌, ◌++◌, map, reverse, length, take, drop, Option, Some, None, Bool, true, false, ◌==◌, get_or, if◌then◌else◌}
 use Rattle.c_semantics.specs.Loops.IterationTrees.{Tree, loop, do_all, no_trees, loop_of, do_of, children, nth, members, width, widths, pick, build, at_depth}
 

@@ -1,5 +1,5 @@
--- How often a canonical loop turns, from what its bounds are worth when its construct is entered (OpenMP 6.0, canonical
--- loop nest form: logical iterations).
+-- How often a canonical loop turns, from what its bounds are worth when its construct is entered (OpenMP 6.0,
+-- 6.4.1: logical iterations).
 use Rattle.std.specs.Prelude.{ℕ, zero, suc, ◌+◌, ◌/◌, ◌^◌, List, Result, Ok, Bool, true, false, ℤ, pos, negsuc, ◌+ℤ◌, ◌-ℤ◌, ◌*ℤ◌, nat_abs, int_lt, unwrap_or}
 use Rattle.c_tree.specs.Bare.{Name}
 use Rattle.c_tree.specs.declared.tree.Ty.{Ty}

@@ -34,10 +34,17 @@ env_with n env (define x minus k t) = record env { defines = define_of x minus k
 env_with n env (function x ps a) = record env { functions = record { name = x; params = ps; run = exec_all n env a } ∷ env.functions }
 env_with n env _ = env
 
+abbrev pub env_after : ℕ → Env → Program → Env
+env_after n env [] = env
+env_after n env (i ∷ is) = env_after n (env_with n env i) is
+
 -- the file-scope variables after an item
 abbrev pub globals_with : List Define → List Var → Top → List Var
 globals_with ds vs (global t x dims e) = vs ++ record { name = x; cell = initial ds t (expr_list dims) e } ∷ []
 globals_with ds vs _ = vs
+
+abbrev pub no_env : Env
+no_env = record { defines = []; functions = [] }
 
 -- ---- runs
 
@@ -46,9 +53,6 @@ abbrev pub run_items : ℕ → Program → Env → State → Run
 run_items n [] env s = ends Next s
 run_items n (main a ∷ is) env s = in_block (exec_all n env a) s
 run_items n (i ∷ is) env s = run_items n is (env_with n env i) (with_globals (globals_with env.defines s.globals i) s)
-
-abbrev pub no_env : Env
-no_env = record { defines = []; functions = [] }
 
 abbrev pub run_program : ℕ → Program → List ℤ → Run
 run_program n p input = run_items n p no_env (record { frame = []; globals = []; lines = []; input = input; turns = 0 })

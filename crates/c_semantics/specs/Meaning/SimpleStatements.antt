@@ -119,12 +119,13 @@ function_named x [] = None
 function_named x (f ∷ fs) = if bytes_eq x f.name then Some f else function_named x fs
 
 -- the arguments from left to right, each converted to its parameter's type directly after its evaluation: the frame
--- that holds them
+-- that holds them; a parameter without an argument is unset
 abbrev pub arguments : List Define → State → List Param → Exprs → List Var → Result (List Var) Trap
 arguments ds s [] es vs = Ok vs
-arguments ds s (p ∷ ps) no_exprs vs = Ok vs
+arguments ds s (p ∷ ps) no_exprs vs = arguments ds s ps no_exprs (record { name = p.name; cell = scalar p.ty None } ∷ vs)
 arguments ds s (p ∷ ps) (more_exprs e es) vs =
-    and_then (eval ds s e) (λ z. and_then (convert p.ty z) (λ z. arguments ds s ps es (record { name = p.name; cell = scalar p.ty (Some z) } ∷ vs)))
+    and_then (eval ds s e) (λ z. and_then (convert p.ty z) (λ z.
+    arguments ds s ps es (record { name = p.name; cell = scalar p.ty (Some z) } ∷ vs)))
 
 -- a call ends Next, or with a trap, or cut
 abbrev pub call_end : End → End

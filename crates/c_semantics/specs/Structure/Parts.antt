@@ -1,5 +1,5 @@
--- The loops and the copies of a body that directives ask for (OpenMP 6.0, the generated loops of each loop-transforming
--- construct), without the order of iterations.
+-- The loops and the copies of a body that directives ask for (OpenMP 6.0, 11: the generated loops of each
+-- loop-transforming construct), without the order of iterations.
 use Rattle.std.specs.Prelude.{ℕ, zero, suc, ◌+◌, ◌-◌, ◌%◌, min, max, List, [], ◌∷◌, ◌++◌, map, length, take, drop, Option, Some, None, ◌==◌, nat_le, get_or, flat_map, if◌then◌else◌}
 use Rattle.c_semantics.specs.Loops.Transformations.{Transformation, tile, interchange, reverse_, split, fuse, unroll_full, unroll_partial, Plan, plan, Applied, none_applied, applied_at, div_up, known_counts, filled, any_zero}
 
@@ -127,7 +127,8 @@ transform_parts (tile ss) ps =
     record p { counts = zip_counts chunk_count p.counts ss ++ (zip_counts tile_count p.counts ss ++ drop (length ss) p.counts) } ∷ []
 transform_parts (interchange qs) ps =
     let p = first_part ps in
-    record p { counts = outermost (all_known (take (length qs) p.counts)) (map (λ q. get_or p.counts (q - 1) None) qs) ++ drop (length qs) p.counts } ∷ []
+    let taken = take (length qs) p.counts in
+    record p { counts = outermost (all_known taken) (map (λ q. get_or p.counts (q - 1) None) qs) ++ drop (length qs) p.counts } ∷ []
 transform_parts reverse_ ps = first_part ps ∷ []
 transform_parts (split cs) ps =
     let p = first_part ps in

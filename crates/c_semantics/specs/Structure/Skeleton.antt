@@ -91,7 +91,8 @@ abbrev mutual
 abbrev pub skeleton_from : List Define → State → Program → List (List Shape)
 skeleton_from ds s [] = []
 skeleton_from ds s (define x minus k t ∷ is) = skeleton_from (define_of x minus k t ∷ ds) s is
-skeleton_from ds s (global t x dims e ∷ is) = skeleton_from ds (with_globals (record { name = x; cell = scalar t None } ∷ s.globals) s) is
+skeleton_from ds s (global t x dims e ∷ is) =
+    skeleton_from ds (with_globals (record { name = x; cell = scalar t None } ∷ s.globals) s) is
 skeleton_from ds s (function x ps a ∷ is) = all_shapes ds (with_frame (params_frame ps) s) a ∷ skeleton_from ds s is
 skeleton_from ds s (main a ∷ is) = all_shapes ds s a ∷ skeleton_from ds s is
 skeleton_from ds s (_ ∷ is) = skeleton_from ds s is

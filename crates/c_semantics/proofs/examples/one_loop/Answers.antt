@@ -15,6 +15,7 @@ returns c = record {
   count_beyond_the_range = refl;
   earlier_variable_keeps_its_value = refl;
   cut_at_the_fourth_turn = refl;
+  cut_in_a_tile = refl;
   loops_of_reverse = refl;
   loops_of_tile = refl;
   loops_of_split = refl;

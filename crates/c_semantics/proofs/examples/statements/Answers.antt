@@ -14,9 +14,11 @@ returns c = record {
   narrow_initial_value = refl;
   division_toward_zero = refl;
   remainder_by_zero = refl;
+  remainder_of_the_least_int = refl;
   subscript_past_the_end = refl;
   input_ends = refl;
   input_does_not_fit = refl;
   file_variables_at_the_end = refl;
+  loops_and_leaves = refl;
   endless_loop = refl;
 }
