@@ -184,6 +184,7 @@ fn simple_statements(alloc: Global) -> Result<StmtList, AllocError> {
     })?;
     list.push(Stmt::Input {
         target: target(alloc)?,
+        input_at: 6,
         span: SPAN,
     })?;
     list.push(Stmt::Break { span: SPAN })?;
