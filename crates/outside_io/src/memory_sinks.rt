@@ -176,6 +176,7 @@ impl Sink for MemSink {
         ensures bytes { Gains (Some self.old.bytes) (Some self.new.bytes)
             (taken_bytes result piece.now) }
         ensures failed { result ≡ Put.Failed → Rose self.old.faults self.new.faults }
+        ensures unchanged { result ≡ Put.Failed → self.new.bytes ≡ self.old.bytes }
         ensures faults { self.old.faults ≤ self.new.faults }
 
         // It fails exactly at the numbers that its maker gave and where there is no room, and

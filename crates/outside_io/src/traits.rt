@@ -64,6 +64,7 @@ pub trait Sink {
         ensures fits { FitsPiece result piece.now }
         ensures bytes { Gains (held self.old) (held self.new) (taken_bytes result piece.now) }
         ensures failed { result ≡ Put.Failed → Rose (faults self.old) (faults self.new) }
+        ensures unchanged { result ≡ Put.Failed → held self.new ≡ held self.old }
         ensures faults { faults self.old ≤ faults self.new };
 }
 
