@@ -27,3 +27,11 @@ GainsTranslation old new text = (written : List ℕ) × IsTranslation text writt
 -- what is held stayed, or grew by a first part of the translation of the text
 abbrev pub GainsPart : Option (List ℕ) → Option (List ℕ) → List ℕ → Type 0
 GainsPart old new text = (old ≡ new) ⊎ ((written : List ℕ) × IsTranslation text written × GainsPrefix old new written)
+
+-- a translation, unless there is no memory
+abbrev pub IsTranslatedOrMemory : Status → Type 0
+IsTranslatedOrMemory status = (status ≡ Done) ⊎ (status ≡ Memory)
+
+-- where nothing failed, a text that has a translation gets it, unless there is no memory
+abbrev pub IsComplete : Status → List ℕ → Type 0
+IsComplete status text = length text ≤ greatest_length → IsFirstText text → IsTranslatedOrMemory status

@@ -3,7 +3,7 @@
 ghost use Rattle.std.specs.Prelude.{◌≡◌, ◌≢◌, ◌⊎◌, ◌≤◌, IfSome, IfOk, IfErr, IsErrOf, OnOk, map, string_bytes};
 ghost use Rattle.outside_io.specs.Bytes.{Gains, GainsPrefix, TakesAll};
 ghost use Rattle.outside_io.specs.Faults.{Rose};
-ghost use Rattle.loopx.specs.Answer.{FitsText, GainsTranslation, GainsPart};
+ghost use Rattle.loopx.specs.Answer.{FitsText, GainsTranslation, GainsPart, IsComplete};
 ghost use Rattle.loopx.specs.declared.status.Status.{Status};
 ghost use Rattle.loopx.specs.Status.{diagnostic, status_of_end, status_of_refusal, IsRefusal};
 ghost use Rattle.translator.specs.Answer.{IsTranslation};
@@ -97,6 +97,11 @@ pub fn run<S: Source, O: Sink, E: Sink>(
     ensures write_fault { result ≡ Status.WriteFault → Rose (O.faults out.old) (O.faults out.new) ⊎ Rose (E.faults diag.old) (E.faults diag.new) }
     ensures text { IfSome (S.left source.old) (FitsText result) }
     ensures read_whole { (result ≡ Status.Done) ⊎ (result ≡ Status.Refused) → TakesAll (S.left source.old) (S.left source.new) }
+
+    // Where nothing failed, what has a translation gets it, unless there is no memory.
+    ensures complete { IsTranslate (map string_bytes words.now) → ¬ Rose (S.faults source.old) (S.faults source.new)
+        → ¬ Rose (O.faults out.old) (O.faults out.new) → ¬ Rose (E.faults diag.old) (E.faults diag.new)
+        → IfSome (S.left source.old) (IsComplete result) }
 
     // What is written: the whole translation at Done, else nothing but a part of it where a write failed.
     ensures done { result ≡ Status.Done → IfSome (S.left source.old) (GainsTranslation (O.held out.old) (O.held out.new)) }
