@@ -2,3 +2,4 @@ pub mod Forgotten
 pub mod Heads
 pub mod Heights
 pub mod Places
+pub mod Walks

@@ -277,53 +277,51 @@ fn function(alloc: Global) -> Result<Item, AllocError> {
     })
 }
 
-#[test]
-fn heights_are_those_worked_out_by_hand(rt: HostRuntime) -> Result<(), Fail> {
-    let alloc = rt.alloc();
-    let tiled = Stmt::Omp {
-        directive: with_clause(alloc, ClauseKind::Sizes(one(alloc, literal(4))?))?,
-        body: one(alloc, for_loop(alloc)?)?,
-        span: SPAN,
-    };
-    let define = Item::Define {
+// #define x -3LL
+fn define(alloc: Global) -> Result<Item, AllocError> {
+    Ok(Item::Define {
         name: x(alloc)?,
         negative: true,
         value: 3,
         ty: Ty::Long,
         name_span: SPAN,
-    };
-    let array = Item::Global {
+    })
+}
+
+// int x[x + 1];
+fn array(alloc: Global) -> Result<Item, AllocError> {
+    Ok(Item::Global {
         ty: Ty::Int,
         name: x(alloc)?,
         name_span: SPAN,
         dims: one(alloc, sum(alloc)?)?,
         init: None,
+    })
+}
+
+fn main_of(body: StmtList) -> Item {
+    Item::Main { body, span: SPAN }
+}
+
+#[test]
+fn heights_are_those_worked_out_by_hand(rt: HostRuntime) -> Result<(), Fail> {
+    let alloc = rt.alloc();
+    let print = Item::Extern {
+        port: Port::Print,
+        span: SPAN,
+    };
+    let tiled = Stmt::Omp {
+        directive: with_clause(alloc, ClauseKind::Sizes(one(alloc, literal(4))?))?,
+        body: one(alloc, for_loop(alloc)?)?,
+        span: SPAN,
     };
     let cases = [
-        (define, 0),
-        (
-            Item::Extern {
-                port: Port::Print,
-                span: SPAN,
-            },
-            0,
-        ),
-        (array, 3),
+        (define(alloc)?, 0),
+        (print, 0),
+        (array(alloc)?, 3),
         (function(alloc)?, 3),
-        (
-            Item::Main {
-                body: StmtList::new(alloc),
-                span: SPAN,
-            },
-            1,
-        ),
-        (
-            Item::Main {
-                body: one(alloc, tiled)?,
-                span: SPAN,
-            },
-            6,
-        ),
+        (main_of(StmtList::new(alloc)), 1),
+        (main_of(one(alloc, tiled)?), 6),
     ];
     for (item, wanted) in cases {
         assert_eq!(rt; height_of(alloc, item)?, wanted);
