@@ -1,3 +1,4 @@
-pub mod Bared
+pub mod Forgotten
+pub mod Heads
 pub mod Heights
 pub mod Places

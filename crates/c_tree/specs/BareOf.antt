@@ -9,7 +9,7 @@ use Rattle.c_tree.specs.declared.tree.Count.{Count}
 use Rattle.c_tree.specs.declared.tree.Count.TheVariants.{Fill, Given}
 use Rattle.c_tree.specs.declared.tree.Directive.{Directive, Directive-F, fold-Directive}
 use Rattle.c_tree.specs.declared.tree.Clause.{Clause, Clause-F, fold-Clause}
-use Rattle.c_tree.specs.declared.tree.ClauseKind.{ClauseKind-F}
+use Rattle.c_tree.specs.declared.tree.ClauseKind.{ClauseKind, ClauseKind-F, fold-ClauseKind}
 use Rattle.c_tree.specs.declared.tree.ApplyItem.{ApplyItem, ApplyItem-F, fold-ApplyItem}
 use Rattle.c_tree.specs.declared.tree.ApplyItem.TheOpen as d
 use Rattle.c_tree.specs.declared.tree.Stmt.{Stmt, Stmt-F, fold-Stmt}
@@ -80,6 +80,9 @@ bare_directive = fold-Directive b.Item b.Clause b.Clause b.Directive item_layer 
 
 abbrev pub bare_clause : Clause → b.Clause
 bare_clause = fold-Clause b.Item b.Clause b.Clause b.Directive item_layer kind_layer clause_layer directive_layer
+
+abbrev pub bare_kind : ClauseKind → b.Clause
+bare_kind = fold-ClauseKind b.Item b.Clause b.Clause b.Directive item_layer kind_layer clause_layer directive_layer
 
 abbrev pub bare_clauses : List Clause → b.Clauses
 bare_clauses cs = gather_clauses (map bare_clause cs)

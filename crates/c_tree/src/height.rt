@@ -204,7 +204,7 @@ pub fn stmts_height(stmts: &[Stmt]) -> u64
 }
 
 /// The greatest height in a head, 0 where it is empty, and 2^64 - 1 for any greater one.
-#[tactic(auto, using(crate::proofs::Bared::heads))]
+#[tactic(auto, using(crate::proofs::Heads::heads))]
 #[cycle(stmt_height)]
 pub fn head_height(head: &ForHead) -> u64
     ensures { result ≡ capped (head_height (bare_head head.now)) }

@@ -5,6 +5,7 @@ pub mod boxed;
 pub mod copy;
 pub mod height;
 pub mod items;
+pub mod laws;
 pub mod name;
 pub mod place;
 pub mod tree;

@@ -115,6 +115,26 @@ pub enum Expr {
     },
 }
 
+impl Expr {
+    ghost use Rattle.std.specs.Prelude.{◌≡◌};
+    ghost use Rattle.c_tree.specs.Placed.{expr_span};
+    ghost use Rattle.c_tree.specs.PlacedOf.{placed_expr};
+
+    pub fn span(&self) -> Span
+        ensures { result ≡ expr_span (placed_expr self.now) }
+    {
+        match self {
+            Expr::Num { span, .. }
+            | Expr::Read { span, .. }
+            | Expr::Item { span, .. }
+            | Expr::Un { span, .. }
+            | Expr::Bin { span, .. }
+            | Expr::Cond { span, .. }
+            | Expr::Cast { span, .. } => *span,
+        }
+    }
+}
+
 /// What is assigned: a variable where there are no subscripts, else an array's element.
 #[derive(Debug, Drop)]
 pub struct Target {
@@ -263,6 +283,34 @@ pub enum Stmt {
         args: ExprList,
         span: Span,
     },
+}
+
+impl Stmt {
+    ghost use Rattle.std.specs.Prelude.{◌≡◌};
+    ghost use Rattle.c_tree.specs.Placed.{stmt_span};
+    ghost use Rattle.c_tree.specs.PlacedOf.{placed_stmt};
+
+    pub fn span(&self) -> Span
+        ensures { result ≡ stmt_span (placed_stmt self.now) }
+    {
+        match self {
+            Stmt::Decl { span, .. }
+            | Stmt::Set { span, .. }
+            | Stmt::Step { span, .. }
+            | Stmt::Print { span, .. }
+            | Stmt::Input { span, .. }
+            | Stmt::If { span, .. }
+            | Stmt::While { span, .. }
+            | Stmt::Do { span, .. }
+            | Stmt::For { span, .. }
+            | Stmt::Block { span, .. }
+            | Stmt::Break { span }
+            | Stmt::Continue { span }
+            | Stmt::Empty { span }
+            | Stmt::Omp { span, .. }
+            | Stmt::Call { span, .. } => *span,
+        }
+    }
 }
 
 /// The head of a `for` (C11 6.8.5.3). `init` is a `Decl` with a value, a `Set` or a `Step`; `step` is a `Set` or a
