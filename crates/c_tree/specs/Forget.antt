@@ -1,5 +1,5 @@
 -- What is left of a tree with places when its places are forgotten: the bare tree.
-use Rattle.std.specs.Prelude.{List, map, Option}
+use Rattle.std.specs.Prelude.{map}
 use Rattle.std.specs.Option.{option_map}
 use Rattle.c_tree.specs.Bare as b
 use Rattle.c_tree.specs.Placed as p

@@ -2,10 +2,12 @@
 #![tactic(auto)]
 
 pub mod boxed;
+pub mod constant;
 pub mod copy;
 pub mod height;
 pub mod items;
 pub mod laws;
 pub mod name;
+pub mod name_rule;
 pub mod place;
 pub mod tree;
