@@ -1,11 +1,11 @@
 -- Constant expressions (C11 6.6): expressions of literals and defines whose evaluation doesn't trap. A define stands for
 -- its literal (6.10.3), negated where a minus stands before it.
-use Rattle.std.specs.Prelude.{ℕ, [], ◌∷◌, Option, Some, None, Result, Ok, Err, Bool, true, false, ◌&&◌, is_some, ℤ, pos, neg_ℤ, if◌then◌else◌, bytes_eq}
-use Rattle.c_tree.specs.Bare.{Name, Expr, num, read, item, un, bin, cond, cast, define, Program}
+use Rattle.std.specs.Prelude.{ℕ, [], ◌∷◌, Option, Some, None, Result, Ok, Err, Bool, true, false, ◌<◌, ◌&&◌, is_some, ℤ, pos, neg_ℤ, if◌then◌else◌, bytes_eq}
+use Rattle.c_tree.specs.Bare.{Name, Expr, num, read, item, un, bin, cond, cast, Exprs, no_exprs, more_exprs, Top, define, Program}
 use Rattle.c_tree.specs.declared.tree.Ty.{Ty}
 use Rattle.c_tree.specs.declared.tree.Ty.TheVariants.{Int}
 use Rattle.c_tree.specs.declared.constant.TypedValue.{TypedValue}
-use Rattle.c_tree.specs.Arithmetic.{Trap, Unset, and_then, common, convert, bin_type, un_type, is_zero, apply_bin, apply_un, settles, unless_settled}
+use Rattle.c_tree.specs.Arithmetic.{Trap, Unset, and_then, common, convert, bin_type, un_type, is_zero, apply_bin, apply_un, settles, unless_settled, half_range}
 
 abbrev pub type_or_int : Option TypedValue → Ty
 type_or_int None = Int
@@ -65,3 +65,27 @@ abbrev pub define_named : Program → Name → Option TypedValue
 define_named [] x = None
 define_named (define y negative k t ∷ tops) x = if bytes_eq x y then Some (defined_as negative k t) else define_named tops x
 define_named (_ ∷ tops) x = define_named tops x
+
+-- ---- what code may count on: each literal and each define has a value that its type holds
+
+abbrev pub IsHeld : Ty → ℕ → Type 0
+IsHeld t k = k < half_range t
+
+abbrev mutual
+  pub LiteralsAreHeld : Expr → Type 0
+  LiteralsAreHeld (num k t) = IsHeld t k
+  LiteralsAreHeld (read x) = Unit {0}
+  LiteralsAreHeld (item x es) = EachLiteralIsHeld es
+  LiteralsAreHeld (un op a) = LiteralsAreHeld a
+  LiteralsAreHeld (bin op a b) = LiteralsAreHeld a × LiteralsAreHeld b
+  LiteralsAreHeld (cond a b c) = LiteralsAreHeld a × LiteralsAreHeld b × LiteralsAreHeld c
+  LiteralsAreHeld (cast t a) = LiteralsAreHeld a
+
+  pub EachLiteralIsHeld : Exprs → Type 0
+  EachLiteralIsHeld no_exprs = Unit {0}
+  EachLiteralIsHeld (more_exprs e es) = LiteralsAreHeld e × EachLiteralIsHeld es
+
+abbrev pub DefinesAreHeld : Program → Type 0
+DefinesAreHeld [] = Unit {0}
+DefinesAreHeld (define x negative k t ∷ tops) = IsHeld t k × DefinesAreHeld tops
+DefinesAreHeld (_ ∷ tops) = DefinesAreHeld tops

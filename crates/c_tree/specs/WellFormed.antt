@@ -4,8 +4,7 @@
 use Rattle.std.specs.Prelude.{ℕ, ◌≡◌, ◌≢◌, ◌<◌, List, [], ◌∷◌, Option, Some, None, Bool, true, false, not, ◌||◌, ◌&&◌, ◌==◌, nat_le, codes, IsTrue}
 use Rattle.std.specs.List.{list_all}
 use Rattle.c_tree.specs.Bare.{Name, Expr, num, read, item, un, bin, cond, cast, Exprs, no_exprs, more_exprs, Target, target, Count, fill, given, Directive, directive, Clauses, no_clauses, more_clauses, Clause, sizes, permutation, counts, looprange, full, partial, apply, Items, no_items, more_items, Item, nothing, acts, Stmt, decl, set, step, print, input, if_, if_else, while_, do_, for_, block, break_, continue_, empty, omp, call, Stmts, no_stmts, more_stmts, MaybeStmt, no_stmt, a_stmt, Head, head, Param, Top, define, extern_, global, function, main, Program}
-use Rattle.c_tree.specs.declared.tree.Ty.{Ty}
-use Rattle.c_tree.specs.Arithmetic.{half_range}
+use Rattle.c_tree.specs.Constants.{IsHeld}
 use Rattle.c_tree.specs.NameRules.DeclaredNames.{is_among}
 
 -- ---- names (C11 6.4.2): a letter or `_`, then letters, digits and `_`, and no keyword (6.4.1)
@@ -39,10 +38,6 @@ abbrev pub IsName : Name → Type 0
 IsName x = IsTrue (is_name x)
 
 -- ---- expressions
-
--- a literal's value is one that its type holds
-abbrev pub IsHeld : Ty → ℕ → Type 0
-IsHeld t k = k < half_range t
 
 abbrev pub IsNotEmpty : Exprs → Type 0
 IsNotEmpty no_exprs = ⊥

@@ -1,6 +1,7 @@
 //! The syntax tree of the C profile: the code's tree, and the bare tree that contracts speak of.
 #![tactic(auto)]
 
+pub mod arithmetic;
 pub mod boxed;
 pub mod constant;
 pub mod copy;
