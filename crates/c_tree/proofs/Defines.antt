@@ -1,11 +1,10 @@
 -- The defines that a search has left: those of its next item and of the rest.
-use Rattle.std.proofs.Common.{◌≡◌, ◌∙◌, ◌<◌, ◌≤◌, ◌+◌, sym, ap, subst, ℕ, List, [], ◌∷◌, length, map, drop, slice_index_or, Option, None}
+use Rattle.std.proofs.Common.{◌≡◌, ◌∙◌, ◌<◌, ◌≤◌, ◌+◌, sym, ap, subst, ℕ, List, ◌∷◌, length, map, drop, slice_index_or, None}
 use Rattle.std.proofs.lemmas.List.{at_drop_more, drop_all}
 use Rattle.c_tree.specs.Bare.{Name}
 use Rattle.c_tree.specs.BareOf.{bare_top}
 use Rattle.c_tree.specs.Constants.{define_named, DefinesAreHeld}
 use Rattle.c_tree.specs.declared.tree.Item.{Item}
-use Rattle.c_tree.specs.declared.constant.TypedValue.{TypedValue}
 
 abbrev Held : List Item → Type 0
 Held xs = DefinesAreHeld (map bare_top xs)

@@ -1,7 +1,7 @@
 -- Constant expressions (C11 6.6): expressions of literals and defines whose evaluation doesn't trap. A define stands for
 -- its literal (6.10.3), negated where a minus stands before it.
 use Rattle.std.specs.Prelude.{ℕ, [], ◌∷◌, Option, Some, None, Result, Ok, Err, Bool, true, false, ◌<◌, ◌&&◌, is_some, ℤ, pos, neg_ℤ, if◌then◌else◌, bytes_eq}
-use Rattle.c_tree.specs.Bare.{Name, Expr, num, read, item, un, bin, cond, cast, Exprs, no_exprs, more_exprs, Top, define, Program}
+use Rattle.c_tree.specs.Bare.{Name, Expr, num, read, item, un, bin, cond, cast, Exprs, no_exprs, more_exprs, define, Program}
 use Rattle.c_tree.specs.declared.tree.Ty.{Ty}
 use Rattle.c_tree.specs.declared.tree.Ty.TheVariants.{Int}
 use Rattle.c_tree.specs.declared.constant.TypedValue.{TypedValue}

@@ -1,6 +1,7 @@
 pub mod Arithmetic
 pub mod Bare
 pub mod BareOf
+pub mod Checked
 pub mod Constants
 pub mod Forget
 pub mod Height

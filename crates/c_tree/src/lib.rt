@@ -3,6 +3,7 @@
 
 pub mod arithmetic;
 pub mod boxed;
+pub mod checked;
 pub mod constant;
 pub mod copy;
 pub mod height;
