@@ -1,6 +1,7 @@
 //! The name rules of a program, and where a program breaks one.
 
 use crate::constant::TypedValue;
+use crate::name::Name;
 
 /// A name rule. A program that breaks one is refused.
 #[derive(Clone, Copy, Debug, PartialEq, Eq)]
@@ -32,6 +33,31 @@ pub enum NameRule {
     N12,
 }
 
+impl NameRule {
+    ghost use Rattle.std.specs.Prelude.{◌≡◌};
+    ghost use Rattle.c_tree.specs.NameRules.Least.{rule_number};
+
+    /// The number in the rule's name.
+    pub fn number(&self) -> u8
+        ensures { result ≡ rule_number self.now }
+    {
+        match self {
+            NameRule::N1 => 1,
+            NameRule::N2 => 2,
+            NameRule::N3 => 3,
+            NameRule::N4 => 4,
+            NameRule::N5 => 5,
+            NameRule::N6 => 6,
+            NameRule::N7 => 7,
+            NameRule::N8 => 8,
+            NameRule::N9 => 9,
+            NameRule::N10 => 10,
+            NameRule::N11 => 11,
+            NameRule::N12 => 12,
+        }
+    }
+}
+
 /// A name rule that is broken, and the place of the breach: a byte offset in the text.
 #[derive(Clone, Copy, Debug, PartialEq, Eq)]
 pub struct Breach {
@@ -48,4 +74,11 @@ pub enum Entity {
     Variable { dims: usize },
     /// A function, with the number of its parameters and its depth.
     Function { params: usize, depth: u64 },
+}
+
+/// A name with what it was declared as.
+#[derive(Debug, Drop)]
+pub struct Declaration {
+    pub name: Name,
+    pub entity: Entity,
 }

@@ -5,12 +5,9 @@ use Rattle.std.specs.Prelude.{List, [], ◌∷◌, ◌++◌, Option, Some, None,
 use Rattle.c_tree.specs.Bare.{Name}
 use Rattle.c_tree.specs.Placed.{Param, Stmt, decl, MaybeStmt, no_stmt, a_stmt, Head, head}
 use Rattle.c_tree.specs.declared.constant.TypedValue.{TypedValue}
+use Rattle.c_tree.specs.declared.name_rule.Declaration.{Declaration}
 use Rattle.c_tree.specs.declared.name_rule.Entity.{Entity}
 use Rattle.c_tree.specs.declared.name_rule.Entity.TheVariants.{Define, Variable}
-
-pub record Declaration : Type 0 where
-  pub name : Name
-  pub entity : Entity
 
 -- what is visible at a place: the declarations of its own scope and of the scopes round it, the latest first; and
 -- whether `print` and `input` were made known
