@@ -4,4 +4,4 @@ pub mod DeclaredNames
 pub mod CallDepth
 pub mod Breaches
 pub mod Programs
-pub mod Least
+pub mod BreachSets

@@ -35,7 +35,7 @@ pub enum NameRule {
 
 impl NameRule {
     ghost use Rattle.std.specs.Prelude.{◌≡◌};
-    ghost use Rattle.c_tree.specs.NameRules.Least.{rule_number};
+    ghost use Rattle.c_tree.specs.NameRules.BreachSets.{rule_number};
 
     /// The number in the rule's name.
     pub fn number(&self) -> u8

@@ -7,7 +7,7 @@ use Rattle.c_tree.specs.declared.tree.Ty.{Ty}
 use Rattle.c_tree.specs.declared.tree.Port.{Port}
 use Rattle.c_tree.specs.declared.tree.Port.TheVariants.{Print, Input}
 use Rattle.c_tree.specs.declared.name_rule.NameRule.TheVariants.{N2, N5, N8, N9}
-use Rattle.c_tree.specs.declared.name_rule.Breach.{Breach}
+use Rattle.c_tree.specs.NameRules.BreachSets.{BreachSet, none, ◌&◌}
 use Rattle.c_tree.specs.declared.name_rule.Entity.TheVariants.{Define, Variable, Function}
 use Rattle.c_tree.specs.Arithmetic.{holds}
 use Rattle.c_tree.specs.Constants.{constant, defined_as}
@@ -40,10 +40,10 @@ in_bounds z = if int_le (pos 1) z && int_le z (pos most_elements) then nat_abs z
 abbrev pub dimension : Scope → ℕ → Expr → ℕ
 dimension s index e = if index == most_dims then 0 else in_bounds (unwrap_or (constant (constant_named s) (forget_expr e)) (pos 0))
 
-abbrev pub dims_breaches : Scope → ℕ → Exprs → List Breach
-dims_breaches s index no_exprs = []
+abbrev pub dims_breaches : Scope → ℕ → Exprs → BreachSet
+dims_breaches s index no_exprs = none
 dims_breaches s index (more_exprs e es) =
-    expr_breaches s e ++ (breach_if (dimension s index e == 0) N5 (expr_span e).start ++ dims_breaches s (index + 1) es)
+    expr_breaches s e & (breach_if (dimension s index e == 0) N5 (expr_span e).start & dims_breaches s (index + 1) es)
 
 -- the elements of an array, 0 where it breaks N5
 abbrev pub dims_product : Scope → ℕ → Exprs → ℕ
@@ -55,8 +55,8 @@ elements_of s no_exprs = 0
 elements_of s (more_exprs e es) = dims_product s 0 (more_exprs e es)
 
 -- N8: the elements of this array and those before it are too many
-abbrev pub size_breaches : ℕ → ℕ → Exprs → List Breach
-size_breaches elements at no_exprs = []
+abbrev pub size_breaches : ℕ → ℕ → Exprs → BreachSet
+size_breaches elements at no_exprs = none
 size_breaches elements at (more_exprs e es) = breach_if (nat_lt most_elements elements) N8 at
 
 -- ---- initial values
@@ -66,16 +66,16 @@ is_held t None = false
 is_held t (Some z) = holds t z
 
 -- N9: a file-scope initial value isn't a constant that the type holds
-abbrev pub initial_breaches : Scope → Ty → Option Expr → List Breach
-initial_breaches s t None = []
+abbrev pub initial_breaches : Scope → Ty → Option Expr → BreachSet
+initial_breaches s t None = none
 initial_breaches s t (Some e) =
-    expr_breaches s e ++ breach_if (not (is_held t (constant (constant_named s) (forget_expr e)))) N9 (expr_span e).start
+    expr_breaches s e & breach_if (not (is_held t (constant (constant_named s) (forget_expr e)))) N9 (expr_span e).start
 
 -- ---- items
 
-abbrev pub params_breaches : Scope → List Param → List Breach
-params_breaches s [] = []
-params_breaches s (p ∷ ps) = declare_breaches s p.name p.name_span.start ++ params_breaches (declare p.name a_scalar s) ps
+abbrev pub params_breaches : Scope → List Param → BreachSet
+params_breaches s [] = none
+params_breaches s (p ∷ ps) = declare_breaches s p.name p.name_span.start & params_breaches (declare p.name a_scalar s) ps
 
 abbrev pub with_global : Scope → Name → Exprs → Scope
 with_global s x dims = declare x (Variable (length (expr_list dims))) s
@@ -90,19 +90,19 @@ more_elements k x dims = min (k.elements + elements_of (with_global k.scope x di
 abbrev pub in_params : Scope → List Param → Scope
 in_params s params = with_params (inner s) params
 
-abbrev pub top_breaches : Known → Top → List Breach
+abbrev pub top_breaches : Known → Top → BreachSet
 -- N2: a name is defined after a define or a declaration of it, in any scope
 top_breaches k (define x negative value t at) = breach_if (is_among x k.names) N2 at.start
-top_breaches k (extern_ port span) = []
+top_breaches k (extern_ port span) = none
 top_breaches k (global t x at dims init) =
     declare_breaches k.scope x at.start
-    ++ (dims_breaches (with_global k.scope x dims) 0 dims
-    ++ (size_breaches (more_elements k x dims) at.start dims
-    ++ initial_breaches (with_global k.scope x dims) t init))
+    & (dims_breaches (with_global k.scope x dims) 0 dims
+    & (size_breaches (more_elements k x dims) at.start dims
+    & initial_breaches (with_global k.scope x dims) t init))
 -- a function is visible after its closing brace
 top_breaches k (function x at params body span) =
     declare_breaches k.scope x at.start
-    ++ (params_breaches (inner k.scope) params ++ stmts_breaches true false (in_params k.scope params) body)
+    & (params_breaches (inner k.scope) params & stmts_breaches true false (in_params k.scope params) body)
 top_breaches k (main body span) = stmts_breaches false false (inner k.scope) body
 
 -- what is known after an item
@@ -124,9 +124,9 @@ known_after k (main body span) = record k { names = names.with_stmts k.names bod
 
 -- ---- programs
 
-abbrev pub breaches_from : Known → Program → List Breach
-breaches_from k [] = []
-breaches_from k (top ∷ tops) = top_breaches k top ++ breaches_from (known_after k top) tops
+abbrev pub breaches_from : Known → Program → BreachSet
+breaches_from k [] = none
+breaches_from k (top ∷ tops) = top_breaches k top & breaches_from (known_after k top) tops
 
 abbrev pub nothing_known : Known
 nothing_known = record {
@@ -136,5 +136,5 @@ nothing_known = record {
 }
 
 -- every breach of a name rule
-abbrev pub breaches : Program → List Breach
+abbrev pub breaches : Program → BreachSet
 breaches program = breaches_from nothing_known program
