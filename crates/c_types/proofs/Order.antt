@@ -3,7 +3,7 @@ use Rattle.std.proofs.Common.{◌≡◌, ◌∙◌, sym, ap, refl, ℕ, suc, ◌
 use Rattle.std.proofs.lemmas.Bool.Decides.{nat_tests}
 use Rattle.std.proofs.lemmas.List.{at_drop_more, drop_all}
 use Rattle.c_tree.specs.declared.name_rule.Breach.{Breach}
-use Rattle.c_tree.specs.NameRules.Least.{is_before, rule_number, lesser, least}
+use Rattle.c_tree.specs.NameRules.BreachSets.{BreachSet, none, one, ◌&◌, HasNone, is_before, rule_number, lesser, least}
 use Rattle.c_tree.specs.NameRules.Scopes.{Scope}
 use Rattle.c_tree.specs.NameRules.Breaches.{expr_breaches, exprs_breaches}
 use Rattle.c_tree.specs.Placed as p
@@ -43,17 +43,26 @@ pub lesser_none : (a : Option Breach) → lesser a None ≡ a
 lesser_none None = refl
 lesser_none (Some a) = refl
 
-pub least_of_both : (xs ys : List Breach) → least (xs ++ ys) ≡ lesser (least xs) (least ys)
-least_of_both [] ys = refl
-least_of_both (x ∷ xs) ys = ap (lesser (Some x)) (least_of_both xs ys) ∙ sym (lesser_joins (Some x) (least xs) (least ys))
+neither : (a b : Option Breach) → lesser a b ≡ None → (a ≡ None) × (b ≡ None)
+neither None b h = (refl, h)
+neither (Some a) None h = absurd (cc)
+neither (Some a) (Some b) h = absurd (some_is (is_before a b) h)
+  where
+    some_is : (t : Bool) → choose t a b ≡ None → ⊥
+    some_is true k = cc
+    some_is false k = cc
 
--- ---- what a loop has left
+pub has_none : (xs : BreachSet) → least xs ≡ None → HasNone xs
+has_none none h = tt
+has_none (one b) h = absurd (cc)
+has_none (xs & ys) h = let both = neither (least xs) (least ys) h in (has_none xs both.0, has_none ys both.1)
+
+-- ---- what a loop over expressions has left
 
 pub exprs_more : (s : Scope) (xs : List Expr) (i : ℕ) (x : Expr) → i < length xs → x ≡ slice_index_or xs i x → least (exprs_breaches s (placed_exprs (drop i xs))) ≡ lesser (least (expr_breaches s (placed_expr x))) (least (exprs_breaches s (placed_exprs (drop (i + 1) xs))))
 exprs_more s xs i x h at =
     at_drop_more (λ ys. least (exprs_breaches s (placed_exprs ys))) xs i x h
-    ∙ (least_of_both (expr_breaches s (placed_expr (slice_index_or xs i x))) (exprs_breaches s (placed_exprs (drop (i + 1) xs)))
-    ∙ ap (λ y. lesser (least (expr_breaches s (placed_expr y))) (least (exprs_breaches s (placed_exprs (drop (i + 1) xs))))) (sym at))
+    ∙ ap (λ y. lesser (least (expr_breaches s (placed_expr y))) (least (exprs_breaches s (placed_exprs (drop (i + 1) xs))))) (sym at)
 
 pub exprs_end : (s : Scope) (xs : List Expr) (i : ℕ) → length xs ≤ i → least (exprs_breaches s (placed_exprs (drop i xs))) ≡ None
 exprs_end s xs i h = ap (λ ys. least (exprs_breaches s (placed_exprs ys))) (drop_all i xs h)
@@ -62,4 +71,4 @@ pub length_of_placed : (xs : List Expr) → length (p.expr_list (placed_exprs xs
 length_of_placed [] = refl
 length_of_placed (x ∷ xs) = ap suc (length_of_placed xs)
 
-pub ruleset leasts = (least_of_both, lesser_joins, lesser_none, exprs_more, exprs_end, length_of_placed)
+pub ruleset leasts = (lesser_joins, lesser_none, exprs_more, exprs_end, length_of_placed)

@@ -8,9 +8,16 @@ use Rattle.c_tree.specs.NameRules.DeclaredNames.{is_among, with_name}
 use Rattle.c_tree.specs.NameRules.Scopes.{find, Scope, inner}
 use Rattle.c_tree.specs.declared.name_rule.Declaration.{Declaration}
 use Rattle.c_tree.specs.declared.name_rule.Entity.{Entity}
-use Rattle.c_types.specs.Visible.{scope_left}
+use Rattle.c_tree.specs.NameRules.Programs.{Known}
+use Rattle.std.specs.Prelude.{Vec}
+use Rattle.std.specs.declared.alloc.Global.{Global}
+use Rattle.c_types.specs.declared.known.Table.TheInside.{Inside}
+use Rattle.c_types.specs.Visible.{scope_of, known_of, scope_left}
 
 -- ---- scopes
+
+abbrev known_here : Inside → List Declaration → List Declaration → Known
+known_here t here outside = record (known_of t) { scope = record (scope_of t) { here = here; outside = outside } }
 
 module _ (ds : List Declaration) where
   pub nothing_here : reverse (drop (length ds) ds) ≡ []
@@ -30,6 +37,20 @@ module _ (ds : List Declaration) where
 
   pub left_outside : (round : ℕ) → round ≤ length ds → drop (length (reverse ds) - round) (reverse ds) ≡ reverse (take round ds)
   left_outside round h = ap (λ n. drop n (reverse ds)) (over_cut round h) ∙ (ap (drop (length (reverse (drop round ds)))) (cut_at round) ∙ drop-append_seam (reverse (drop round ds)) (reverse (take round ds)))
+
+abbrev with_declared : Inside → Vec Declaration Global → ℕ → Inside
+with_declared t kept round = record t { declared = kept; start = round }
+
+abbrev left_as : ℕ → Known → Known
+left_as round k = record k { scope = scope_left round k.scope }
+
+pub left : (t : Inside) (kept : Vec Declaration Global) (round : ℕ) → kept.items ≡ take t.start t.declared.items → t.start ≤ length t.declared.items → round ≤ length (scope_of t).outside → known_of (with_declared t kept round) ≡ left_as round (known_of t)
+unfolding scope_left
+left t kept round e within h =
+    let xs : List Declaration = take t.start t.declared.items in
+    let fits : round ≤ length xs = omega (arith, length-reverse xs) in
+    ap (λ ys. known_here t (reverse (drop round ys)) (reverse (take round ys))) e
+    ∙ (λ i. known_here t (sym (left_here xs round fits) i) (sym (left_outside xs round fits) i))
 
 -- ---- the last declaration of a name
 

@@ -158,18 +158,22 @@ impl Table {
         }
     }
 
-    /// Enters a scope in this one. The answer, which `leave` wants, is how many declarations stand round this one.
-    #[tactic(auto, using(crate::proofs::Tables::tables))]
-    pub fn enter(&mut self) -> usize
-        ensures scope { self.new ≡ record self.old { scope = scopes.inner self.old.scope } }
-        ensures round { result ≡ length self.old.scope.outside }
+    /// How many declarations stand round this scope.
+    pub fn round(&self) -> usize
+        ensures { result ≡ length self.now.scope.outside }
     {
-        let round = self.start;
-        self.start = self.declared.len();
-        round
+        self.start
     }
 
-    /// Leaves this scope for the one in which it was entered.
+    /// Enters a scope in this one.
+    #[tactic(auto, using(crate::proofs::Tables::tables))]
+    pub fn enter(&mut self)
+        ensures { self.new ≡ record self.old { scope = scopes.inner self.old.scope } }
+    {
+        self.start = self.declared.len();
+    }
+
+    /// Leaves this scope for the one in which it was entered, round which so many declarations stand.
     #[tactic(auto, using(crate::proofs::Tables::tables))]
     pub fn leave(&mut self, round: usize)
         requires { round ≤ length self.old.scope.outside }

@@ -1,8 +1,8 @@
 //! Breaches in the order of their places, and then of their rules.
 
 ghost use Rattle.std.specs.Prelude.{◌≡◌};
-ghost use Rattle.c_tree.specs.NameRules.Least as order;
-ghost use Rattle.c_tree.specs.NameRules.Least.{least};
+ghost use Rattle.c_tree.specs.NameRules.BreachSets as order;
+ghost use Rattle.c_tree.specs.NameRules.BreachSets.{least};
 ghost use Rattle.c_tree.specs.NameRules.Breaches.{breach_if};
 
 use c_tree::name_rule::{Breach, NameRule};

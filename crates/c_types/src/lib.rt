@@ -4,3 +4,4 @@
 pub mod expressions;
 pub mod known;
 pub mod least;
+pub mod statements;

@@ -68,10 +68,13 @@ target_breaches s (target x es span) =
 
 -- ---- directives: their expressions use names like any other
 
+abbrev pub count_breaches : Scope → Count → BreachSet
+count_breaches s (fill span) = none
+count_breaches s (given e) = expr_breaches s e
+
 abbrev pub counts_breaches : Scope → List Count → BreachSet
 counts_breaches s [] = none
-counts_breaches s (fill span ∷ cs) = counts_breaches s cs
-counts_breaches s (given e ∷ cs) = expr_breaches s e & counts_breaches s cs
+counts_breaches s (c ∷ cs) = count_breaches s c & counts_breaches s cs
 
 abbrev mutual
   pub directive_breaches : Scope → Directive → BreachSet

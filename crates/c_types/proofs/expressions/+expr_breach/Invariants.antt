@@ -1,7 +1,7 @@
 use Rattle.std.proofs.Common.{◌≡◌, drop}
 use Rattle.c_tree.specs.PlacedOf.{placed_exprs}
 use Rattle.c_tree.specs.NameRules.Breaches.{exprs_breaches}
-use Rattle.c_tree.specs.NameRules.Least.{least, lesser}
+use Rattle.c_tree.specs.NameRules.BreachSets.{least, lesser}
 use Rattle.c_types.proofs.expressions.+expr_breach.Given as goal
 
 -- What was found and what is left have the least breach of all.
