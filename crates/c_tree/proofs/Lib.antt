@@ -1,3 +1,4 @@
+pub mod Defines
 pub mod Forgotten
 pub mod Heads
 pub mod Heights

@@ -1,8 +1,13 @@
+pub mod Arithmetic
 pub mod Bare
 pub mod BareOf
+pub mod Checked
+pub mod Constants
 pub mod Forget
 pub mod Height
+pub mod NameRules
 pub mod Place
 pub mod Placed
 pub mod PlacedOf
+pub mod WellFormed
 pub mod formers

@@ -7,14 +7,8 @@ use Rattle.c_tree.specs.declared.tree.UnOp.{UnOp}
 use Rattle.c_tree.specs.declared.tree.UnOp.TheVariants.{Neg, Plus, Not}
 use Rattle.c_tree.specs.declared.tree.BinOp.{BinOp}
 use Rattle.c_tree.specs.declared.tree.BinOp.TheVariants.{Mul, Div, Rem, Add, Sub, Lt, Le, Gt, Ge, Eq, Ne, And, Or}
-
-pub data Trap : Type 0 where
-  Overflow : Trap
-  DivideByZero : Trap
-  Index : Trap
-  Unset : Trap
-  Narrow : Trap
-  InputEnd : Trap
+pub use Rattle.c_tree.specs.declared.arithmetic.Trap.{Trap}
+pub use Rattle.c_tree.specs.declared.arithmetic.Trap.TheVariants.{Overflow, DivideByZero, Index, Unset, Narrow, InputEnd}
 
 -- goes on with the answer, unless it is a trap
 abbrev pub and_then : {A B : Type 0} → Result A Trap → (A → Result B Trap) → Result B Trap
