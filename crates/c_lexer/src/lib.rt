@@ -1,0 +1,4 @@
+//! The lexical analysis of the C profile: bytes become tokens, whatever the pieces in which they come.
+#![tactic(auto)]
+
+pub mod token;
