@@ -1,0 +1,5 @@
+pub mod Bytes
+pub mod Numbers
+pub mod Lexemes
+pub mod Comments
+pub mod Cut
