@@ -94,10 +94,14 @@ pub data Answer : Type 0 where
   tokens : List Token → Answer
   fault : LexKind → ℕ → Answer
 
--- the answer with tokens before it
+-- the answer with tokens before its own
+abbrev pub with_first : Token → Answer → Answer
+with_first t (tokens ts) = tokens (t ∷ ts)
+with_first t (fault kind at) = fault kind at
+
 abbrev pub after : List Token → Answer → Answer
-after ts (tokens us) = tokens (ts ++ us)
-after ts (fault kind at) = fault kind at
+after [] a = a
+after (t ∷ ts) a = with_first t (after ts a)
 
 -- The bytes, with s before them, are pieces to the end, or pieces and then a fault.
 pub data Lexes (total : ℕ) : Side → List ℕ → Answer → Type 0 where

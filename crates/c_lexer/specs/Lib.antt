@@ -3,3 +3,5 @@ pub mod Numbers
 pub mod Lexemes
 pub mod Comments
 pub mod Cut
+pub mod Classes
+pub mod Machine

@@ -1,5 +1,7 @@
 //! The lexical analysis of the C profile: bytes become tokens, whatever the pieces in which they come.
 #![tactic(auto)]
 
+mod class;
 pub mod context;
+mod mode;
 pub mod token;
