@@ -1,2 +1,5 @@
 pub mod Seen
 pub mod Shapes
+pub mod Longest
+pub mod Meaning
+pub mod Begins

@@ -70,7 +70,7 @@ shape Comma = one refl
 module _ (class : ℕ → Class) (grow : Punct → ℕ → Growth) (dot : class 46 ≡ Punctuation Dot) (dots : grow Dot 46 ≡ Dots) where
 
   -- no punctuator begins with one that ends before the byte, and the byte
-  no_longer : (p q : Punct) (s t : List ℕ) (b : ℕ) (w : List ℕ) → Made class grow p s → Made class grow q t → t ≡ s ++ b ∷ w → grow p b ≡ Ends → ⊥
+  pub no_longer : (p q : Punct) (s t : List ℕ) (b : ℕ) (w : List ℕ) → Made class grow p s → Made class grow q t → t ≡ s ++ b ∷ w → grow p b ≡ Ends → ⊥
   no_longer p q s t b w (one c) (one d) e g = absurd cc
   no_longer p q s t b w (one {x = x} c) (two {q = q'} {x = x'} {y = y} d h) e g = absurd (let i : x' ≡ x = cc in let j : y ≡ b = cc in let k : q' ≡ p = cc in cc)
   no_longer p q s t b w (one {x = x} c) (three {q = q'} {x = x'} {y = y} d h i) e g = absurd (let i : x' ≡ x = cc in let j : y ≡ b = cc in let k : q' ≡ p = cc in cc)
@@ -88,3 +88,10 @@ module _ (class : ℕ → Class) (grow : Punct → ℕ → Growth) (dot : class 
   no_longer p q s t b w ellipsis (two d h) e g = absurd cc
   no_longer p q s t b w ellipsis (three d h i) e g = absurd cc
   no_longer p q s t b w ellipsis ellipsis e g = absurd cc
+
+  -- what begins with two dots is the ellipsis
+  pub dotted : (q : Punct) (s w : List ℕ) → Made class grow q s → s ≡ 46 ∷ 46 ∷ w → w ≡ 46 ∷ []
+  dotted q s w (one d) e = absurd cc
+  dotted q s w (two {q = o} {x = x} {y = y} d h) e = absurd (let i : x ≡ 46 = cc in let j : y ≡ 46 = cc in let k : o ≡ Dot = cc in cc)
+  dotted q s w (three {q = o} {x = x} {y = y} d h i) e = absurd (let j : x ≡ 46 = cc in let k : y ≡ 46 = cc in let l : o ≡ Dot = cc in cc)
+  dotted q s w ellipsis e = cc
