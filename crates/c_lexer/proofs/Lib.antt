@@ -5,3 +5,6 @@ pub mod Meaning
 pub mod Begins
 pub mod Stages
 pub mod Steps
+pub mod Keeps
+pub mod Ends
+pub mod Lexed

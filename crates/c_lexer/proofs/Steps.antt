@@ -70,11 +70,11 @@ fits Assign b = equals_fits Assign _ b (λ e. ap (λ z. 61 ∷ z ∷ []) (sym e)
 fits p b = tt
 
 -- words and numbers begin no comment
-word_no_comment : (w cs : List ℕ) → IsTrue (is_word w) → IsFalse (begins_comment (w ++ cs))
+pub word_no_comment : (w cs : List ℕ) → IsTrue (is_word w) → IsFalse (begins_comment (w ++ cs))
 word_no_comment [] cs h = absurd (both_ways _ refl h)
 word_no_comment (c ∷ w) cs h = let k = letter_apart c (and_parts _ _ h).0 in apart_no_comment c (w ++ cs) (λ e. omega arith)
 
-number_no_comment : (w cs : List ℕ) → IsTrue (is_number w) → IsFalse (begins_comment (w ++ cs))
+pub number_no_comment : (w cs : List ℕ) → IsTrue (is_number w) → IsFalse (begins_comment (w ++ cs))
 number_no_comment [] cs h = absurd (both_ways _ refl h)
 number_no_comment (c ∷ w) cs h = let k = digit_bounds c (and_parts _ _ h).0 in apart_no_comment c (w ++ cs) (λ e. omega arith)
 
@@ -163,7 +163,7 @@ module _ (total : ℕ) where
           (λ n h. dots_from line_ before start at b bs a s e n h)
 
   -- a backslash that begins no join
-  bad_backslash_at : (s : Side) (bs : List ℕ) → NoJoin (92 ∷ bs) → Fault s (92 ∷ bs) BadByte
+  pub bad_backslash_at : (s : Side) (bs : List ℕ) → NoJoin (92 ∷ bs) → Fault s (92 ∷ bs) BadByte
   bad_backslash_at s bs n = bad_byte (record { no_blank = refl; no_feed = refl; no_join = n; no_hash = λ e f. omega arith; no_lexeme = none })
     where
       no_punct : (k : Class) (q : Punct) → k ≡ BackslashByte → k ≡ Punctuation q → ⊥
