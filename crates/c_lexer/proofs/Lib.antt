@@ -8,3 +8,5 @@ pub mod Steps
 pub mod Keeps
 pub mod Ends
 pub mod Lexed
+pub mod Sorts
+pub mod Unique

@@ -152,7 +152,7 @@ ends_punct_at p b [] us e h = absurd cc
 ends_punct_at p b (c ∷ cs) us e h = let k : c ≡ b = cc in subst (λ x. growth p x ≡ Ends) k h
 
 -- the first byte of a punctuator
-first_byte : (p : Punct) (s : List ℕ) → Shape p s → (c : ℕ) × (u : List ℕ) × (q : Punct) × (s ≡ c ∷ u) × (class_of c ≡ Punctuation q)
+pub first_byte : (p : Punct) (s : List ℕ) → Shape p s → (c : ℕ) × (u : List ℕ) × (q : Punct) × (s ≡ c ∷ u) × (class_of c ≡ Punctuation q)
 first_byte p s (one {x = c} k) = (c, [], p, refl, k)
 first_byte p s (two {q = q} {x = c} {y = d} k i) = (c, d ∷ [], q, refl, k)
 first_byte p s (three {q = q} {x = c} {y = d} {z = f} k i j) = (c, d ∷ f ∷ [], q, refl, k)

@@ -95,3 +95,23 @@ module _ (class : ℕ → Class) (grow : Punct → ℕ → Growth) (dot : class 
   dotted q s w (two {q = o} {x = x} {y = y} d h) e = absurd (let i : x ≡ 46 = cc in let j : y ≡ 46 = cc in let k : o ≡ Dot = cc in cc)
   dotted q s w (three {q = o} {x = x} {y = y} d h i) e = absurd (let j : x ≡ 46 = cc in let k : y ≡ 46 = cc in let l : o ≡ Dot = cc in cc)
   dotted q s w ellipsis e = cc
+
+  -- no two punctuators have the same bytes
+  pub same_punct : (p q : Punct) (s t : List ℕ) → Made class grow p s → Made class grow q t → s ≡ t → p ≡ q
+  same_punct p q s t (one {x = x} c) (one {x = y} d) e = let i : x ≡ y = cc in cc
+  same_punct p q s t (two {q = o} {x = x} {y = y} c h) (two {q = n} {x = v} {y = w} d i) e = let j : x ≡ v = cc in let k : y ≡ w = cc in let l : o ≡ n = cc in cc
+  same_punct p q s t (three {q = o} {r = r} {x = x} {y = y} {z = z} c h i) (three {q = n} {r = m} {x = u} {y = v} {z = w} d j k) e =
+      let a : x ≡ u = cc in let b : y ≡ v = cc in let f : z ≡ w = cc in let g : o ≡ n = cc in let l : r ≡ m = cc in cc
+  same_punct p q s t ellipsis ellipsis e = refl
+  same_punct p q s t (one c) (two d i) e = absurd cc
+  same_punct p q s t (one c) (three d i j) e = absurd cc
+  same_punct p q s t (one c) ellipsis e = absurd cc
+  same_punct p q s t (two c h) (one d) e = absurd cc
+  same_punct p q s t (two c h) (three d i j) e = absurd cc
+  same_punct p q s t (two c h) ellipsis e = absurd cc
+  same_punct p q s t (three c h i) (one d) e = absurd cc
+  same_punct p q s t (three c h i) (two d j) e = absurd cc
+  same_punct p q s t (three {q = o} {x = x} {y = y} c h i) ellipsis e = absurd (let j : x ≡ 46 = cc in let k : y ≡ 46 = cc in let l : o ≡ Dot = cc in cc)
+  same_punct p q s t ellipsis (one d) e = absurd cc
+  same_punct p q s t ellipsis (two d i) e = absurd cc
+  same_punct p q s t ellipsis (three {q = o} {x = x} {y = y} d h i) e = absurd (let j : x ≡ 46 = cc in let k : y ≡ 46 = cc in let l : o ≡ Dot = cc in cc)
