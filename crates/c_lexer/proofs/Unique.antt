@@ -8,7 +8,9 @@ use Rattle.c_lexer.specs.declared.token.Token.{Token}
 use Rattle.c_lexer.specs.declared.token.TokenKind.{TokenKind}
 use Rattle.c_lexer.specs.declared.token.TokenKind.TheVariants.{Word, Number, Punct as Punctuator, Hash as HashToken, LineEnd, End}
 use Rattle.c_lexer.specs.declared.token.Punct.{Punct}
+use Rattle.c_lexer.specs.declared.token.Punct.TheVariants.{Slash}
 use Rattle.c_lexer.specs.declared.token.LexKind.{LexKind}
+use Rattle.c_lexer.specs.declared.token.LexKind.TheVariants.{BadByte}
 use Rattle.c_lexer.specs.Bytes.{Join, before_feed, before_return, NoJoin, Joins, last, more}
 use Rattle.c_lexer.specs.Comments.{InBlock, star, other, AfterStar, slash, join, goes_on, InLine, text_ends, line_ends, joined, any, Comment, block, line, begins_comment}
 use Rattle.c_lexer.specs.Numbers.{is_number, integer}
@@ -19,7 +21,7 @@ use Rattle.c_lexer.proofs.Seen.{class_letter, class_digit, digit_no_letter}
 use Rattle.c_lexer.proofs.Shapes.{shape, same_punct}
 use Rattle.c_lexer.proofs.Longest.{punct_class}
 use Rattle.c_lexer.proofs.Steps.{number_no_comment}
-use Rattle.c_lexer.proofs.Sorts.{Sort, backslash, remark, token_, sort, differ, clash, joins_sort, remark_sort, lexeme_first, lexeme_sort, piece_sort, piece_is}
+use Rattle.c_lexer.proofs.Sorts.{Sort, backslash, remark, token_, nothing, sort, differ, clash, joins_sort, remark_sort, lexeme_first, lexeme_sort, piece_sort, piece_is}
 
 join_one : {bs cs ds : List ℕ} → Join bs cs → Join bs ds → cs ≡ ds
 join_one (before_feed e f) (before_feed g h) = refl
@@ -164,3 +166,94 @@ piece_one {total = total} {s = s} (lexeme {kind = k} {bs = bs} {w = w} {cs = cs}
     let r = longest_one l l' in
     lexeme_same total s bs cs cs' k k' (spells_one k k' w' (subst (λ z. Spells k z) r.0 sp) sp') r.1
 piece_one p q = let x = p in let y = q in absurd (clash _ _ _ (piece_is x) (piece_is y) refl)
+
+-- a byte at which nothing begins
+nothing_first : {s : Side} {b : ℕ} {bs w cs : List ℕ} → BeginsNothing s b bs → IsLongest w (b ∷ bs) cs → ⊥
+nothing_first {b = b} {bs = bs} {w = w} {cs = cs} n l =
+    let r = lexeme_first w l.lexeme in
+    let parts : b ∷ bs ≡ r.0 ∷ (r.1 ++ cs) = l.parts ∙ ap (λ z. z ++ cs) r.2 in
+    let same : r.0 ≡ b = cc in
+    n.no_lexeme r.1 (subst IsLexeme (r.2 ∙ ap (λ z. z ∷ r.1) same) l.lexeme)
+
+nothing_slash : {s : Side} {b : ℕ} {bs : List ℕ} → BeginsNothing s b bs → b ≡ 47 → ⊥
+nothing_slash n e = n.no_lexeme [] (subst (λ z. IsLexeme (z ∷ [])) (sym e) (inr (inr (Slash, refl))))
+
+comment_byte : {b : ℕ} {bs cs : List ℕ} → Comment (b ∷ bs) cs → b ≡ 47
+comment_byte (block e f h) = e
+comment_byte (line e f h) = e
+
+nothing_piece : {total : ℕ} {s t : Side} {b : ℕ} {bs cs : List ℕ} {ts : List Token} → BeginsNothing s b bs → Piece total s (b ∷ bs) ts t cs → ⊥
+nothing_piece n (blank e) = both_ways _ n.no_blank e
+nothing_piece n (feed e) = both_ways _ n.no_feed e
+nothing_piece n (joins j l) = let i = first_join j in n.no_join i.0 i.1
+nothing_piece n (comment c) = nothing_slash n (comment_byte c)
+nothing_piece n (hash e f) = n.no_hash e f
+nothing_piece n (lexeme m l k) = nothing_first n l
+
+nothing_fault : {s : Side} {b : ℕ} {bs : List ℕ} {kind : LexKind} → BeginsNothing s b bs → Fault s (b ∷ bs) kind → BadByte ≡ kind
+nothing_fault n (bad_byte m) = refl
+nothing_fault n (open_comment e f h) = absurd (nothing_slash n e)
+nothing_fault n (bad_number l i k) = absurd (nothing_first n l)
+nothing_fault n (split_token j l) = let i = first_join j in absurd (n.no_join i.0 i.1)
+
+number_sort : {w bs cs : List ℕ} → IsLongest w bs cs → IsTrue (is_number w) → sort bs ≡ token_
+number_sort {w = w} {bs = bs} {cs = cs} l n = lexeme_sort w cs bs l.parts l.lexeme (ap begins_comment l.parts ∙ number_no_comment w cs n)
+
+-- the number of a fault is no token
+number_token : (w : List ℕ) (k : TokenKind) → IsTrue (is_number w) → integer w ≡ None → Spells k w → ⊥
+number_token w (Word x) n i h = letter_digit w h.0 n
+number_token w (Number v t z) n i h = let e : Some (Number v t z) ≡ None = sym h.1 ∙ i in cc
+number_token w (Punctuator p) n i h = digit_punct w p n h
+number_token w HashToken n i h = h
+number_token w LineEnd n i h = h
+number_token w End n i h = h
+
+fault_piece : {total : ℕ} {s t : Side} {bs cs : List ℕ} {ts : List Token} {kind : LexKind} → Fault s bs kind → Piece total s bs ts t cs → ⊥
+fault_piece (bad_byte n) p = nothing_piece n p
+fault_piece (open_comment e f h) (comment (block i j k)) = h _ k
+fault_piece (open_comment e f h) (comment (line i j k)) = omega arith
+fault_piece (open_comment {a = a} {b = b} {bs = bs} e f h) p = let q = p in clash _ _ _ (remark_sort a b bs e (inl f)) (piece_is q) refl
+fault_piece (bad_number {w = w} l n i) (lexeme {kind = k} {w = v} m l' sp) = let r = longest_one l l' in number_token w k n i (subst (λ z. Spells k z) (sym r.0) sp)
+fault_piece (bad_number l n i) p = let q = p in clash _ _ _ (number_sort l n) (piece_is q) refl
+fault_piece {s = s} (split_token j l) (joins k m) = both_ways _ (subst (λ z. IsFalse (allowed s.before z)) (joins_one j k) l) m
+fault_piece (split_token j l) p = let q = p in clash _ _ _ (joins_sort j) (piece_is q) refl
+
+fault_one : {s : Side} {bs : List ℕ} {k l : LexKind} → Fault s bs k → Fault s bs l → k ≡ l
+fault_one (bad_byte n) f = nothing_fault n f
+fault_one f (bad_byte n) = let g = f in sym (nothing_fault n g)
+fault_one (open_comment e f h) (open_comment i j k) = refl
+fault_one (open_comment {a = a} {b = b} {bs = bs} e f h) (bad_number l n i) = absurd (clash _ _ _ (remark_sort a b bs e (inl f)) (number_sort l n) refl)
+fault_one (open_comment {a = a} {b = b} {bs = bs} e f h) (split_token j l) = absurd (clash _ _ _ (remark_sort a b bs e (inl f)) (joins_sort j) refl)
+fault_one (bad_number l n i) (open_comment {a = a} {b = b} {bs = bs} e f h) = absurd (clash _ _ _ (number_sort l n) (remark_sort a b bs e (inl f)) refl)
+fault_one (bad_number l n i) (bad_number m o j) = refl
+fault_one (bad_number l n i) (split_token j m) = absurd (clash _ _ _ (number_sort l n) (joins_sort j) refl)
+fault_one (split_token j l) (open_comment {a = a} {b = b} {bs = bs} e f h) = absurd (clash _ _ _ (joins_sort j) (remark_sort a b bs e (inl f)) refl)
+fault_one (split_token j l) (bad_number m n i) = absurd (clash _ _ _ (joins_sort j) (number_sort m n) refl)
+fault_one (split_token j l) (split_token k m) = refl
+
+-- nothing stands at the end of the text
+none_longest : {w cs : List ℕ} → IsLongest w [] cs → ⊥
+none_longest {w = w} {cs = cs} l = let r = lexeme_first w l.lexeme in let e : [] ≡ r.0 ∷ (r.1 ++ cs) = l.parts ∙ ap (λ z. z ++ cs) r.2 in cc
+
+end_piece : {total : ℕ} {s t : Side} {cs : List ℕ} {ts : List Token} → Piece total s [] ts t cs → ⊥
+end_piece (joins j l) = let i = first_join j in no_join_none i.0 i.1
+end_piece (comment c) = elim c [ ]
+end_piece (lexeme n l k) = none_longest l
+
+end_fault : {s : Side} {k : LexKind} → Fault s [] k → ⊥
+end_fault (bad_number l n i) = none_longest l
+end_fault (split_token j l) = let i = first_join j in no_join_none i.0 i.1
+
+pub one_answer : {total : ℕ} {s : Side} {bs : List ℕ} {a b : Answer} → Lexes total s bs a → Lexes total s bs b → a ≡ b
+one_answer ends ends = refl
+one_answer ends (stops f) = absurd (end_fault f)
+one_answer ends (goes p h) = absurd (end_piece p)
+one_answer (stops f) ends = absurd (end_fault f)
+one_answer {total = total} (stops {bs = bs} f) (stops g) = ap (λ k. fault k (place total bs)) (fault_one f g)
+one_answer (stops f) (goes p h) = absurd (fault_piece f p)
+one_answer (goes p h) ends = absurd (end_piece p)
+one_answer (goes p h) (stops f) = absurd (fault_piece f p)
+one_answer {total = total} (goes {ts = ts} {a = a} p h) (goes {ts = us} {a = b} q k) =
+    let r = piece_one p q in
+    let i = one_answer h (subst₂ (λ x y. Lexes total x y b) (sym r.side) (sym r.rest) k) in
+    ap (λ z. after z a) r.tokens ∙ ap (λ z. after us z) i
