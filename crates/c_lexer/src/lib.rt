@@ -4,4 +4,6 @@
 mod class;
 pub mod context;
 mod mode;
+mod number;
+mod punctuator;
 pub mod token;
