@@ -1,6 +1,6 @@
 -- Numbers: the preprocessing numbers (C11 6.4.8) that begin with a digit, and which of them are integer constants of
 -- the profile (C11 6.4.4.1).
-use Rattle.std.specs.Prelude.{ℕ, ◌-◌, ◌^◌, Bool, true, false, ◌&&◌, ◌||◌, ◌==◌, nat_eq, nat_lt, if◌then◌else◌, List, [], ◌∷◌, take, length, Option, Some, None, codes}
+use Rattle.std.specs.Prelude.{ℕ, ◌-◌, ◌^◌, Bool, true, false, not, ◌&&◌, ◌||◌, ◌==◌, nat_eq, nat_lt, if◌then◌else◌, List, [], ◌∷◌, take, length, Option, Some, None, codes}
 use Rattle.std.specs.Char.{is_ascii_digit, is_digit}
 use Rattle.std.specs.Str.Parse.{digits_value}
 use Rattle.std.specs.List.{list_all, ends_with}
@@ -47,8 +47,7 @@ digits_of (a ∷ b ∷ bs) = if a == 48 then (if b == 120 || b == 88 then bs els
 
 -- digits of the radix, at least one
 abbrev pub are_digits : ℕ → List ℕ → Bool
-are_digits radix [] = false
-are_digits radix (d ∷ ds) = list_all (λ c. is_digit c radix) (d ∷ ds)
+are_digits radix ds = not (length ds == 0) && list_all (λ d. is_digit d radix) ds
 
 abbrev pub is_plain_zero : List ℕ → Bool
 is_plain_zero [] = false
