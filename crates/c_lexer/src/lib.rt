@@ -3,6 +3,7 @@
 
 mod class;
 pub mod context;
+mod held;
 mod mode;
 mod number;
 mod punctuator;

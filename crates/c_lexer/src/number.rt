@@ -135,8 +135,5 @@ fn without_suffix(text: &[u8], suffixed: bool) -> &[u8]
 fn is_plain_zero(text: &[u8]) -> bool
     ensures { result ≡ is_plain_zero text.now }
 {
-    match text {
-        [b'0'] => true,
-        _ => false,
-    }
+    matches!(text, [b'0'])
 }
