@@ -49,11 +49,11 @@ number_ends : (total : ℕ) (line : Line) (before : Before) (start : ℕ) (w : L
 number_ends total line before start w e n l (Some kind) i = token_ends total line before kind start w e (number_no_comment w [] n) l (number_spells w kind n i)
 number_ends total line before start w e n l None i = fault_stops total (side line before) BadNumber start (w ++ []) _ (ap (λ z. start + length z) (append_none w) ∙ e) (bad_number l n i) refl
 
-dots_end : (total : ℕ) (line : Line) (before : Before) (start : ℕ) → start + 2 ≡ total →
-    Lexes total (side line before) (46 ∷ 46 ∷ []) (after (token (Punctuator Dot) start (start + 1) ∷ []) (closes_token (with_token line) (Punctuator Dot) (start + 1) total))
-dots_end total line before start e =
-    token_goes total line before (Punctuator Dot) start (start + 1) (46 ∷ []) (46 ∷ 46 ∷ []) (46 ∷ []) (closes_token (with_token line) (Punctuator Dot) (start + 1) total)
-        e (omega arith) refl (dot_longest [] tt) refl (token_ends total (with_token line) Solid (Punctuator Dot) (start + 1) (46 ∷ []) (omega arith) refl (punct_longest Dot [] tt) refl)
+dots_end : (total : ℕ) (line : Line) (before : Before) (start second : ℕ) → (start + 1 ≡ second) × (second + 1 ≡ total) →
+    Lexes total (side line before) (46 ∷ 46 ∷ []) (after (token (Punctuator Dot) start second ∷ []) (closes_token (with_token line) (Punctuator Dot) second total))
+dots_end total line before start second e =
+    token_goes total line before (Punctuator Dot) start second (46 ∷ []) (46 ∷ 46 ∷ []) (46 ∷ []) (closes_token (with_token line) (Punctuator Dot) second total)
+        (omega arith) e.1 refl (dot_longest [] tt) refl (token_ends total (with_token line) Solid (Punctuator Dot) second (46 ∷ []) e.1 refl (punct_longest Dot [] tt) refl)
 
 run_ends : (total : ℕ) (line : Line) (before : Before) (first last : ℕ) (bs : List ℕ) → last + length (92 ∷ bs) ≡ total → NoJoin (92 ∷ bs) → IsFalse (begins_comment (92 ∷ bs)) →
     Run total (side line before) first (92 ∷ bs) (closes_backslash before first last)
@@ -111,7 +111,7 @@ end_from total line before Between text s = closing_at total line before
 end_from total line before (InWord start) text s = let w = whole_word text s.1 in token_ends total line before (Word text) start text s.0 (word_no_comment text [] w) (word_longest text [] s.1 tt) (w, refl)
 end_from total line before (InNumber start last) text s = number_ends total line before start text s.0 (whole_number last text s.1) (number_longest last text [] s.1 tt) (integer text) refl
 end_from total line before (InPunct start p) text s = token_ends total line before (Punctuator p) start (spelling p) s (punct_no_comment p (spelling p) [] (shape p) tt) (punct_longest p [] tt) refl
-end_from total line before (TwoDots start) text s = dots_end total line before start s
+end_from total line before (TwoDots start second) text s = dots_end total line before start second s
 end_from total line before (Backslash first) text s = fault_stops total (side line before) BadByte first (92 ∷ []) _ s (bad_backslash_at total (side line before) [] no_join_alone) refl
 end_from total line before (BackslashReturn first) text s = fault_stops total (side line before) BadByte first (92 ∷ 13 ∷ []) _ s (bad_backslash_at total (side line before) (13 ∷ []) no_join_pair) refl
 end_from total line before (Joined first) text s = run_ends_clear total line before first

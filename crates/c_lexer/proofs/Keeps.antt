@@ -44,7 +44,7 @@ number_sound line None start at b = tt
 
 grows_sound : (line : Line) (before : Before) (p : Punct) (start at b : ℕ) (g : Growth) → start + length (spelling p) ≡ at → Fits p b g → SoundNext (grows line before p start at b g) (at + 1)
 grows_sound line before p start at b (Grows q) s f = ap (λ z. start + length z) f ∙ longer_text start at (spelling p) b s
-grows_sound line before p start at b Dots s f = let one : start + 1 ≡ at = subst (λ q. start + length (spelling q) ≡ at) f.0 s in omega arith
+grows_sound line before p start at b Dots s f = (subst (λ q. start + length (spelling q) ≡ at) f.0 s, refl)
 grows_sound line before p start at b OpensBlock s f = tt
 grows_sound line before p start at b OpensLine s f = tt
 grows_sound line before p start at b Ends s f = ends_sound line (Punctuator p) start at b
@@ -69,8 +69,8 @@ step_sound line before (InWord start) text at b s =
 step_sound line before (InNumber start last) text at b s =
     cond_both (goes_on last b) _ _ (λ m. SoundNext m (at + 1)) (λ g. (longer_text start at text b s.0, number_grows last text b g s.1)) (λ g. number_sound line (integer text) start at b)
 step_sound line before (InPunct start p) text at b s = grows_sound line before p start at b (growth p b) s (fits p b)
-step_sound line before (TwoDots start) text at b s =
-    tested (λ m. SoundNext m (at + 1)) b 46 _ _ (λ e. omega arith) (λ n. ends_sound (with_token line) (Punctuator Dot) (start + 1) at b)
+step_sound line before (TwoDots start second) text at b s =
+    tested (λ m. SoundNext m (at + 1)) b 46 _ _ (λ e. omega (arith, s.0, s.1)) (λ n. ends_sound (with_token line) (Punctuator Dot) second at b)
 step_sound line before (Backslash first) text at b s =
     tested (λ m. SoundNext m (at + 1)) b 10 _ _ (λ e. tt) (λ n. tested (λ m. SoundNext m (at + 1)) b 13 _ _ (λ e. omega arith) (λ k. tt))
 step_sound line before (BackslashReturn first) text at b s = tested (λ m. SoundNext m (at + 1)) b 10 _ _ (λ e. tt) (λ n. tt)

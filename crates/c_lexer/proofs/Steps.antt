@@ -145,22 +145,22 @@ module _ (total : ℕ) where
       ends_from line_ before (Punctuator p) start at b (spelling p) bs a s e (punct_no_comment p (spelling p) (b ∷ bs) (shape p) g) (punct_longest p (b ∷ bs) g) refl h
 
   -- two dots that are no part of an ellipsis
-  dots_from : (line_ : Line) (before : Before) (start at b : ℕ) (bs : List ℕ) (a : Answer) → start + 2 ≡ at → at + length (b ∷ bs) ≡ total → b ≢ 46 →
-      Next total (two_dots line_ start at b) bs a → Lexes total (side line_ before) (46 ∷ 46 ∷ b ∷ bs) (after (two_dots line_ start at b).whole a)
-  dots_from line_ before start at b bs a s e n h =
-      token_goes total line_ before (Punctuator Dot) start (start + 1) (46 ∷ []) (46 ∷ 46 ∷ b ∷ bs) (46 ∷ b ∷ bs)
-          (after (ends_token (with_token line_) (Punctuator Dot) (start + 1) at b).whole a) (omega arith) (omega arith) refl (dot_longest (b ∷ bs) n) refl
-          (ends_from (with_token line_) Solid (Punctuator Dot) (start + 1) at b (spelling Dot) bs a (omega arith) e (punct_no_comment Dot (spelling Dot) (b ∷ bs) (shape Dot) (ends n)) (punct_longest Dot (b ∷ bs) (ends n)) refl h)
+  dots_from : (line_ : Line) (before : Before) (start second at b : ℕ) (bs : List ℕ) (a : Answer) → (start + 1 ≡ second) × (second + 1 ≡ at) → at + length (b ∷ bs) ≡ total → b ≢ 46 →
+      Next total (two_dots line_ start second at b) bs a → Lexes total (side line_ before) (46 ∷ 46 ∷ b ∷ bs) (after (two_dots line_ start second at b).whole a)
+  dots_from line_ before start second at b bs a s e n h =
+      token_goes total line_ before (Punctuator Dot) start second (46 ∷ []) (46 ∷ 46 ∷ b ∷ bs) (46 ∷ b ∷ bs)
+          (after (ends_token (with_token line_) (Punctuator Dot) second at b).whole a) (omega arith) (omega arith) refl (dot_longest (b ∷ bs) n) refl
+          (ends_from (with_token line_) Solid (Punctuator Dot) second at b (spelling Dot) bs a s.1 e (punct_no_comment Dot (spelling Dot) (b ∷ bs) (shape Dot) (ends n)) (punct_longest Dot (b ∷ bs) (ends n)) refl h)
     where
       ends : b ≢ 46 → growth Dot b ≡ Ends
       ends n = cond-false _ _ _ (ne_eqb b 46 n)
 
-  two_dots_from : (line_ : Line) (before : Before) (start : ℕ) (text : List ℕ) (at b : ℕ) (bs : List ℕ) (a : Answer) → start + 2 ≡ at → at + length (b ∷ bs) ≡ total →
-      Next total (in_mode line_ before (TwoDots start) text at b) bs a → Lexes total (side line_ before) (46 ∷ 46 ∷ b ∷ bs) (after (in_mode line_ before (TwoDots start) text at b).whole a)
-  two_dots_from line_ before start text at b bs a s e =
+  two_dots_from : (line_ : Line) (before : Before) (start second : ℕ) (text : List ℕ) (at b : ℕ) (bs : List ℕ) (a : Answer) → (start + 1 ≡ second) × (second + 1 ≡ at) → at + length (b ∷ bs) ≡ total →
+      Next total (in_mode line_ before (TwoDots start second) text at b) bs a → Lexes total (side line_ before) (46 ∷ 46 ∷ b ∷ bs) (after (in_mode line_ before (TwoDots start second) text at b).whole a)
+  two_dots_from line_ before start second text at b bs a s e =
       tested (λ m. Next total m bs a → Lexes total (side line_ before) (46 ∷ 46 ∷ b ∷ bs) (after m.whole a)) b 46 _ _
           (λ g h. subst (λ z. Lexes total (side line_ before) (46 ∷ 46 ∷ z ∷ bs) a) (sym g) h)
-          (λ n h. dots_from line_ before start at b bs a s e n h)
+          (λ n h. dots_from line_ before start second at b bs a s e n h)
 
   -- a backslash that begins no join
   pub bad_backslash_at : (s : Side) (bs : List ℕ) → NoJoin (92 ∷ bs) → Fault s (92 ∷ bs) BadByte
@@ -304,7 +304,7 @@ module _ (total : ℕ) where
   step_from line_ before (InWord start) text at b bs a s e h = word_from line_ before start text at b bs a s e h
   step_from line_ before (InNumber start last) text at b bs a s e h = number_from line_ before start last text at b bs a s e h
   step_from line_ before (InPunct start p) text at b bs a s e h = grows_from line_ before p start at b bs a s e (growth p b) refl (fits p b) h
-  step_from line_ before (TwoDots start) text at b bs a s e h = two_dots_from line_ before start text at b bs a s e h
+  step_from line_ before (TwoDots start second) text at b bs a s e h = two_dots_from line_ before start second text at b bs a s e h
   step_from line_ before (Backslash first) text at b bs a s e h = backslash_from line_ before first text at b bs a s e h
   step_from line_ before (BackslashReturn first) text at b bs a s e h = backslash_return_from line_ before first text at b bs a s e h
   step_from line_ before (Joined first) text at b bs a s e h = joined_from line_ before first text at b bs a e h

@@ -78,13 +78,13 @@ ends_number line None start at b = faulted BadNumber start
 
 abbrev pub grows : Line → Before → Punct → ℕ → ℕ → ℕ → Growth → Move
 grows line before p start at b (Grows q) = to (state line before (InPunct start q))
-grows line before p start at b Dots = to (state line before (TwoDots start))
+grows line before p start at b Dots = to (state line before (TwoDots start at))
 grows line before p start at b OpensBlock = to (state line before (Block start InBlock))
 grows line before p start at b OpensLine = to (state line before (LineComment InLine))
 grows line before p start at b Ends = ends_token line (Punctuator p) start at b
 
-abbrev pub two_dots : Line → ℕ → ℕ → ℕ → Move
-two_dots line start at b = gives (token (Punctuator Dot) start (start + 1) ∷ []) (ends_token (with_token line) (Punctuator Dot) (start + 1) at b)
+abbrev pub two_dots : Line → ℕ → ℕ → ℕ → ℕ → Move
+two_dots line start second at b = gives (token (Punctuator Dot) start second ∷ []) (ends_token (with_token line) (Punctuator Dot) second at b)
 
 -- A run of joins ends before a byte that is no backslash.
 abbrev pub leaves_run : Line → Before → ℕ → ℕ → ℕ → Move
@@ -129,8 +129,8 @@ in_mode line before (InNumber start last) text at b =
     if goes_on last b then to (record { line = line; before = before; mode = InNumber start b; text = text ++ b ∷ [] })
         else ends_number line (integer text) start at b
 in_mode line before (InPunct start p) text at b = grows line before p start at b (growth p b)
-in_mode line before (TwoDots start) text at b =
-    if b == 46 then to (state line before (InPunct start Ellipsis)) else two_dots line start at b
+in_mode line before (TwoDots start second) text at b =
+    if b == 46 then to (state line before (InPunct start Ellipsis)) else two_dots line start second at b
 in_mode line before (Backslash first) text at b =
     if is_feed b then to (state line before (Joined first)) else
     if b == 13 then to (state line before (BackslashReturn first)) else faulted BadByte first
@@ -176,7 +176,7 @@ end_in_mode line before Between text at = closing line at
 end_in_mode line before (InWord start) text at = closes_token line (Word text) start at
 end_in_mode line before (InNumber start last) text at = closes_number line (integer text) start at
 end_in_mode line before (InPunct start p) text at = closes_token line (Punctuator p) start at
-end_in_mode line before (TwoDots start) text at = after (token (Punctuator Dot) start (start + 1) ∷ []) (closes_token (with_token line) (Punctuator Dot) (start + 1) at)
+end_in_mode line before (TwoDots start second) text at = after (token (Punctuator Dot) start second ∷ []) (closes_token (with_token line) (Punctuator Dot) second at)
 end_in_mode line before (Backslash first) text at = fault BadByte first
 end_in_mode line before (BackslashReturn first) text at = fault BadByte first
 end_in_mode line before (Joined first) text at = closing line at

@@ -1,8 +1,18 @@
 //! What the lexer is in the midst of.
 
+use crate::context::{Before, Line};
 use crate::token::{LexKind, Punct};
 
-/// The open piece of a text, with the places that its end asks for.
+/// The open piece of a text, with what stands before it.
+#[derive(Clone, Copy)]
+pub struct OpenPiece {
+    pub line: Line,
+    pub before: Before,
+    pub mode: Mode,
+}
+
+
+/// Which piece is open, with the places that its end asks for.
 #[derive(Clone, Copy)]
 pub enum Mode {
     /// No piece is open.
@@ -18,7 +28,7 @@ pub enum Mode {
     Punct { start: u64, punct: Punct },
 
     /// Two dots, which may become an ellipsis.
-    TwoDots { start: u64 },
+    TwoDots { start: u64, second: u64 },
 
     /// A backslash that may begin a run of joins.
     Backslash { first: u64 },
