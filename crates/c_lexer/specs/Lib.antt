@@ -5,3 +5,4 @@ pub mod Comments
 pub mod Cut
 pub mod Classes
 pub mod Machine
+pub mod Running

@@ -1,0 +1,195 @@
+//! The lexer as a machine that takes a byte at a time.
+
+ghost use Rattle.std.specs.Prelude.{◌≡◌, ℕ, ◌<◌, ◌^◌, [], ◌∷◌, ◌++◌, OnOk};
+ghost use Rattle.c_lexer.specs.Cut.{token, with_token, after_kind, line_end};
+ghost use Rattle.c_lexer.specs.Machine.{begin, ends_token, ends_number, grows, two_dots, leaves_run, bad_backslash, block_stage, ends_block, line_stage, ends_line, in_mode, hash, faulted, step};
+ghost use Rattle.c_lexer.specs.Running.{Follows, IsKept, state_of};
+
+use crate::class::{Class, class_of, goes_in_word, is_blank};
+use crate::context::{Before, Line};
+use crate::held::{HeldText, HeldTokens};
+use crate::mode::{BlockStage, Growth, LineStage, Mode, OpenPiece};
+use crate::number::{goes_on, integer};
+use crate::punctuator::growth;
+use crate::token::{LexKind, Punct, Token, TokenKind};
+use c_tree::name::Name;
+use c_tree::tree::Span;
+use std::alloc::{AllocError, Global};
+
+/// The open piece of the text, the bytes of an open word or number, and the whole tokens.
+#[derive(Drop)]
+pub struct Machine {
+    pub alloc: Global,
+    pub piece: OpenPiece,
+    pub text: HeldText,
+    pub tokens: HeldTokens,
+}
+
+/// The line after one more token on it.
+pub fn with_token(line: Line) -> Line
+    ensures { result ≡ with_token line }
+{
+    match line {
+        Line::Fresh => Line::Begun,
+        Line::Begun => Line::Begun,
+        Line::Directive => Line::Directive,
+    }
+}
+
+/// What a token leaves directly before the place after it.
+pub fn after_kind(kind: &TokenKind) -> Before
+    ensures { result ≡ after_kind kind.now }
+{
+    match kind {
+        TokenKind::Punct(Punct::Slash) => Before::Slash,
+        _ => Before::Solid,
+    }
+}
+
+/// Adds a token.
+pub fn push_token(tokens: &mut HeldTokens, kind: TokenKind, start: u64, end: u64) -> Result<(), AllocError>
+    ensures before { tokens.new.0 ≡ tokens.old.0 }
+    ensures ok { OnOk result (tokens.new.1 ≡ tokens.old.1 ++ token kind start end ∷ []) }
+{
+    tokens.push(Token {
+        kind,
+        span: Span { start, end },
+    })
+}
+
+/// Adds the LineEnd of a `#` line.
+pub fn push_line_end(tokens: &mut HeldTokens, line: Line, at: u64) -> Result<(), AllocError>
+    ensures before { tokens.new.0 ≡ tokens.old.0 }
+    ensures ok { OnOk result (tokens.new.1 ≡ tokens.old.1 ++ line_end line at) }
+{
+    match line {
+        Line::Directive => push_token(tokens, TokenKind::LineEnd, at, at),
+        Line::Fresh => Ok(()),
+        Line::Begun => Ok(()),
+    }
+}
+
+impl Machine {
+    /// The rest of the text doesn't matter.
+    fn fail(&mut self, kind: LexKind, place: u64)
+        ensures follows { Follows self.old self.new (faulted kind place) }
+        ensures kept { IsKept self.old self.new }
+    {
+        self.piece = OpenPiece {
+            line: Line::Fresh,
+            before: Before::Free,
+            mode: Mode::Faulted { kind, place },
+        };
+    }
+
+    /// A byte begins a piece.
+    fn begin(&mut self, line: Line, before: Before, at: u64, byte: u8) -> Result<(), AllocError>
+        requires { at < 2 ^ 63 }
+        ensures ok { OnOk result (Follows self.old self.new (begin line before at byte)) }
+        ensures kept { IsKept self.old self.new }
+    {
+        match class_of(byte) {
+            Class::Feed => {
+                push_line_end(&mut self.tokens, line, at)?;
+                self.piece = OpenPiece {
+                    line: Line::Fresh,
+                    before: Before::Free,
+                    mode: Mode::Between,
+                };
+                Ok(())
+            }
+            Class::Blank => {
+                self.piece = OpenPiece {
+                    line,
+                    before: Before::Free,
+                    mode: Mode::Between,
+                };
+                Ok(())
+            }
+            Class::Backslash => {
+                self.piece = OpenPiece {
+                    line,
+                    before,
+                    mode: Mode::Backslash { first: at },
+                };
+                Ok(())
+            }
+            Class::Letter => {
+                self.text.begin(byte)?;
+                self.piece = OpenPiece {
+                    line,
+                    before,
+                    mode: Mode::Word { start: at },
+                };
+                Ok(())
+            }
+            Class::Digit => {
+                self.text.begin(byte)?;
+                self.piece = OpenPiece {
+                    line,
+                    before,
+                    mode: Mode::Number { start: at, last: byte },
+                };
+                Ok(())
+            }
+            Class::Hash => self.begin_directive(line, at),
+            Class::Punct(punct) => {
+                self.piece = OpenPiece {
+                    line,
+                    before,
+                    mode: Mode::Punct { start: at, punct },
+                };
+                Ok(())
+            }
+            Class::Other => {
+                self.fail(LexKind::BadByte, at);
+                Ok(())
+            }
+        }
+    }
+
+    /// A `#` begins a `#` line, where it is the first token on its line.
+    fn begin_directive(&mut self, line: Line, at: u64) -> Result<(), AllocError>
+        requires { at < 2 ^ 63 }
+        ensures ok { OnOk result (Follows self.old self.new (hash line at)) }
+        ensures kept { IsKept self.old self.new }
+    {
+        match line {
+            Line::Fresh => {
+                push_token(&mut self.tokens, TokenKind::Hash, at, at + 1)?;
+                self.piece = OpenPiece {
+                    line: Line::Directive,
+                    before: Before::Solid,
+                    mode: Mode::Between,
+                };
+                Ok(())
+            }
+            Line::Begun => {
+                self.fail(LexKind::BadByte, at);
+                Ok(())
+            }
+            Line::Directive => {
+                self.fail(LexKind::BadByte, at);
+                Ok(())
+            }
+        }
+    }
+
+    /// A token ends, and the byte begins a piece.
+    fn end_token(
+        &mut self,
+        line: Line,
+        kind: TokenKind,
+        start: u64,
+        at: u64,
+        byte: u8,
+    ) -> Result<(), AllocError>
+        requires { at < 2 ^ 63 }
+        ensures ok { OnOk result (Follows self.old self.new (ends_token line kind start at byte)) }
+        ensures kept { IsKept self.old self.new }
+    {
+        let before = after_kind(&kind);
+        push_token(&mut self.tokens, kind, start, at)?;
+        self.begin(with_token(line), before, at, byte)
+    }
+}
