@@ -11,3 +11,4 @@ pub mod Ends
 pub mod Lexed
 pub mod Sorts
 pub mod Unique
+pub mod Followed

@@ -3,6 +3,7 @@
 ghost use Rattle.std.specs.Prelude.{◌≡◌, ℕ, ◌<◌, ◌^◌, [], ◌∷◌, ◌++◌, OnOk};
 ghost use Rattle.c_lexer.specs.Cut.{token, with_token, after_kind, line_end};
 ghost use Rattle.c_lexer.specs.Machine.{begin, ends_token, ends_number, grows, two_dots, leaves_run, bad_backslash, block_stage, ends_block, line_stage, ends_line, in_mode, hash, faulted, step};
+ghost use Rattle.c_lexer.specs.Numbers.{integer};
 ghost use Rattle.c_lexer.specs.Running.{Follows, IsKept, state_of};
 
 use crate::class::{Class, class_of, goes_in_word, is_blank};
@@ -191,5 +192,93 @@ impl Machine {
         let before = after_kind(&kind);
         push_token(&mut self.tokens, kind, start, at)?;
         self.begin(with_token(line), before, at, byte)
+    }
+}
+
+impl Machine {
+    /// A word goes on, or ends before the byte.
+    fn in_word(&mut self, start: u64, at: u64, byte: u8) -> Result<(), AllocError>
+        requires at { at < 2 ^ 63 }
+        requires mode { self.old.piece.mode ≡ Mode.Word start }
+        ensures ok { OnOk result (Follows self.old self.new (in_mode self.old.piece.line self.old.piece.before (Mode.Word start) self.old.text.1 at byte)) }
+        ensures kept { IsKept self.old self.new }
+    {
+        if goes_in_word(byte) {
+            self.text.push(byte)
+        } else {
+            let name = Name::new(self.alloc, self.text.bytes())?;
+            self.end_token(self.piece.line, TokenKind::Word(name), start, at, byte)
+        }
+    }
+
+    /// A number goes on, or ends before the byte.
+    fn in_number(&mut self, start: u64, last: u8, at: u64, byte: u8) -> Result<(), AllocError>
+        requires { at < 2 ^ 63 }
+        ensures ok { OnOk result (Follows self.old self.new (in_mode self.old.piece.line self.old.piece.before (Mode.Number start last) self.old.text.1 at byte)) }
+        ensures kept { IsKept self.old self.new }
+    {
+        if goes_on(last, byte) {
+            self.text.push(byte)?;
+            self.piece.mode = Mode::Number { start, last: byte };
+            Ok(())
+        } else {
+            self.end_number(start, at, byte)
+        }
+    }
+
+    fn end_number(&mut self, start: u64, at: u64, byte: u8) -> Result<(), AllocError>
+        requires { at < 2 ^ 63 }
+        ensures ok { OnOk result (Follows self.old self.new (ends_number self.old.piece.line (integer self.old.text.1) start at byte)) }
+        ensures kept { IsKept self.old self.new }
+    {
+        match integer(self.text.bytes()) {
+            Some(kind) => self.end_token(self.piece.line, kind, start, at, byte),
+            None => {
+                self.fail(LexKind::BadNumber, start);
+                Ok(())
+            }
+        }
+    }
+
+    /// A punctuator grows, or ends before the byte.
+    fn in_punct(&mut self, start: u64, punct: Punct, at: u64, byte: u8) -> Result<(), AllocError>
+        requires { at < 2 ^ 63 }
+        ensures ok { OnOk result (Follows self.old self.new (in_mode self.old.piece.line self.old.piece.before (Mode.Punct start punct) self.old.text.1 at byte)) }
+        ensures kept { IsKept self.old self.new }
+    {
+        match growth(punct, byte) {
+            Growth::Grows(longer) => {
+                self.piece.mode = Mode::Punct { start, punct: longer };
+                Ok(())
+            }
+            Growth::Dots => {
+                self.piece.mode = Mode::TwoDots { start, second: at };
+                Ok(())
+            }
+            Growth::OpensBlock => {
+                self.piece.mode = Mode::Block { start, stage: BlockStage::Inside };
+                Ok(())
+            }
+            Growth::OpensLine => {
+                self.piece.mode = Mode::LineComment { stage: LineStage::Inside };
+                Ok(())
+            }
+            Growth::Ends => self.end_token(self.piece.line, TokenKind::Punct(punct), start, at, byte),
+        }
+    }
+
+    /// Two dots become an ellipsis, or are two tokens before the byte.
+    fn in_two_dots(&mut self, start: u64, second: u64, at: u64, byte: u8) -> Result<(), AllocError>
+        requires { at < 2 ^ 63 }
+        ensures ok { OnOk result (Follows self.old self.new (in_mode self.old.piece.line self.old.piece.before (Mode.TwoDots start second) self.old.text.1 at byte)) }
+        ensures kept { IsKept self.old self.new }
+    {
+        if byte == b'.' {
+            self.piece.mode = Mode::Punct { start, punct: Punct::Ellipsis };
+            Ok(())
+        } else {
+            push_token(&mut self.tokens, TokenKind::Punct(Punct::Dot), start, second)?;
+            self.end_token(with_token(self.piece.line), TokenKind::Punct(Punct::Dot), second, at, byte)
+        }
     }
 }
