@@ -4,6 +4,7 @@
 mod class;
 pub mod context;
 mod held;
+mod joins;
 mod machine;
 mod mode;
 mod number;

@@ -72,7 +72,7 @@ pub fn push_line_end(tokens: &mut HeldTokens, line: Line, at: u64) -> Result<(),
 
 impl Machine {
     /// The rest of the text doesn't matter.
-    fn fail(&mut self, kind: LexKind, place: u64)
+    pub fn fail(&mut self, kind: LexKind, place: u64)
         ensures follows { Follows self.old self.new (faulted kind place) }
         ensures kept { IsKept self.old self.new }
     {
@@ -84,7 +84,7 @@ impl Machine {
     }
 
     /// A byte begins a piece.
-    fn begin(&mut self, line: Line, before: Before, at: u64, byte: u8) -> Result<(), AllocError>
+    pub fn begin(&mut self, line: Line, before: Before, at: u64, byte: u8) -> Result<(), AllocError>
         requires { at < 2 ^ 63 }
         ensures ok { OnOk result (Follows self.old self.new (begin line before at byte)) }
         ensures kept { IsKept self.old self.new }
@@ -197,7 +197,7 @@ impl Machine {
 
 impl Machine {
     /// A word goes on, or ends before the byte.
-    fn in_word(&mut self, start: u64, at: u64, byte: u8) -> Result<(), AllocError>
+    pub fn in_word(&mut self, start: u64, at: u64, byte: u8) -> Result<(), AllocError>
         requires at { at < 2 ^ 63 }
         requires mode { self.old.piece.mode ≡ Mode.Word start }
         ensures ok { OnOk result (Follows self.old self.new (in_mode self.old.piece.line self.old.piece.before (Mode.Word start) self.old.text.1 at byte)) }
@@ -212,7 +212,7 @@ impl Machine {
     }
 
     /// A number goes on, or ends before the byte.
-    fn in_number(&mut self, start: u64, last: u8, at: u64, byte: u8) -> Result<(), AllocError>
+    pub fn in_number(&mut self, start: u64, last: u8, at: u64, byte: u8) -> Result<(), AllocError>
         requires { at < 2 ^ 63 }
         ensures ok { OnOk result (Follows self.old self.new (in_mode self.old.piece.line self.old.piece.before (Mode.Number start last) self.old.text.1 at byte)) }
         ensures kept { IsKept self.old self.new }
@@ -241,7 +241,7 @@ impl Machine {
     }
 
     /// A punctuator grows, or ends before the byte.
-    fn in_punct(&mut self, start: u64, punct: Punct, at: u64, byte: u8) -> Result<(), AllocError>
+    pub fn in_punct(&mut self, start: u64, punct: Punct, at: u64, byte: u8) -> Result<(), AllocError>
         requires { at < 2 ^ 63 }
         ensures ok { OnOk result (Follows self.old self.new (in_mode self.old.piece.line self.old.piece.before (Mode.Punct start punct) self.old.text.1 at byte)) }
         ensures kept { IsKept self.old self.new }
@@ -268,7 +268,7 @@ impl Machine {
     }
 
     /// Two dots become an ellipsis, or are two tokens before the byte.
-    fn in_two_dots(&mut self, start: u64, second: u64, at: u64, byte: u8) -> Result<(), AllocError>
+    pub fn in_two_dots(&mut self, start: u64, second: u64, at: u64, byte: u8) -> Result<(), AllocError>
         requires { at < 2 ^ 63 }
         ensures ok { OnOk result (Follows self.old self.new (in_mode self.old.piece.line self.old.piece.before (Mode.TwoDots start second) self.old.text.1 at byte)) }
         ensures kept { IsKept self.old self.new }
