@@ -1,10 +1,10 @@
 //! The lexer as a machine that takes a byte at a time.
 
-ghost use Rattle.std.specs.Prelude.{◌≡◌, ℕ, ◌<◌, ◌^◌, [], ◌∷◌, ◌++◌, OnOk};
+ghost use Rattle.std.specs.Prelude.{◌≡◌, ℕ, ◌+◌, ◌<◌, ◌^◌, [], ◌∷◌, ◌++◌, length, OnOk};
 ghost use Rattle.c_lexer.specs.Cut.{token, with_token, after_kind, line_end};
-ghost use Rattle.c_lexer.specs.Machine.{begin, ends_token, ends_number, grows, two_dots, leaves_run, bad_backslash, block_stage, ends_block, line_stage, ends_line, in_mode, hash, faulted, step};
+ghost use Rattle.c_lexer.specs.Machine.{begin, ends_token, ends_number, grows, two_dots, leaves_run, bad_backslash, block_stage, ends_block, line_stage, ends_line, in_mode, hash, faulted, step, start};
 ghost use Rattle.c_lexer.specs.Numbers.{integer};
-ghost use Rattle.c_lexer.specs.Running.{Follows, IsKept, state_of};
+ghost use Rattle.c_lexer.specs.Running.{Follows, IsKept, state_of, run};
 
 use crate::class::{Class, class_of, goes_in_word, is_blank};
 use crate::context::{Before, Line};
@@ -280,5 +280,102 @@ impl Machine {
             push_token(&mut self.tokens, TokenKind::Punct(Punct::Dot), start, second)?;
             self.end_token(with_token(self.piece.line), TokenKind::Punct(Punct::Dot), second, at, byte)
         }
+    }
+}
+
+impl Machine {
+    pub fn new(alloc: Global) -> Self
+        ensures state { state_of result ≡ start }
+        ensures tokens { result.tokens ≡ ([], []) }
+        ensures text { result.text ≡ ([], []) }
+    {
+        Machine {
+            alloc,
+            piece: OpenPiece {
+                line: Line::Fresh,
+                before: Before::Free,
+                mode: Mode::Between,
+            },
+            text: HeldText::new(alloc),
+            tokens: HeldTokens::new(alloc),
+        }
+    }
+
+    /// One byte, at a place.
+    fn step(&mut self, at: u64, byte: u8) -> Result<(), AllocError>
+        requires { at < 2 ^ 63 }
+        ensures ok { OnOk result (Follows self.old self.new (step (state_of self.old) at byte)) }
+        ensures kept { IsKept self.old self.new }
+    {
+        match self.piece.mode {
+            Mode::Between => self.begin(self.piece.line, self.piece.before, at, byte),
+            Mode::Word { start } => self.in_word(start, at, byte),
+            Mode::Number { start, last } => self.in_number(start, last, at, byte),
+            Mode::Punct { start, punct } => self.in_punct(start, punct, at, byte),
+            Mode::TwoDots { start, second } => self.in_two_dots(start, second, at, byte),
+            Mode::Backslash { first } => {
+                self.in_backslash(first, byte);
+                Ok(())
+            }
+            Mode::BackslashReturn { first } => {
+                self.in_backslash_return(first, byte);
+                Ok(())
+            }
+            Mode::Joined { first } => self.in_joined(first, at, byte),
+            Mode::JoinedBackslash { first, last } => {
+                self.in_joined_backslash(first, last, byte);
+                Ok(())
+            }
+            Mode::JoinedReturn { first, last } => {
+                self.in_joined_return(first, last, byte);
+                Ok(())
+            }
+            Mode::JoinedSlash { first, slash } => {
+                self.in_joined_slash(first, slash, byte);
+                Ok(())
+            }
+            Mode::Block { start, stage } => {
+                self.in_block(start, stage, byte);
+                Ok(())
+            }
+            Mode::LineComment { stage } => self.in_line(stage, at, byte),
+            Mode::Faulted { kind, place } => {
+                self.fail(kind, place);
+                Ok(())
+            }
+        }
+    }
+
+    /// A piece of the text, whose first byte stands at a place. After an error only what was there before is known.
+    pub fn take(&mut self, at: u64, piece: &[u8]) -> Result<(), AllocError>
+        requires { at + length piece.now < 2 ^ 63 }
+        ensures ok { OnOk result (Follows self.old self.new (run (state_of self.old) at piece.now)) }
+        ensures kept { IsKept self.old self.new }
+    {
+        for (i, byte) in piece.iter().enumerate() {
+            self.step(at + i as u64, *byte)?;
+        }
+        Ok(())
+    }
+
+    /// The piece is read.
+    pub fn commit(&mut self)
+        ensures state { state_of self.new ≡ state_of self.old }
+        ensures tokens { self.new.tokens ≡ (self.old.tokens.0 ++ self.old.tokens.1, []) }
+        ensures text { self.new.text ≡ (self.old.text.1, self.old.text.1) }
+    {
+        self.tokens.commit();
+        self.text.commit();
+    }
+
+    /// The piece is not read, and the open piece is as it was before it.
+    pub fn revert(&mut self, piece: OpenPiece)
+        ensures piece { self.new.piece ≡ piece }
+        ensures tokens { self.new.tokens ≡ (self.old.tokens.0, []) }
+        ensures text { self.new.text ≡ (self.old.text.0, self.old.text.0) }
+    {
+        self.piece = piece;
+        self.tokens.revert();
+        self.text.revert();
     }
 }
