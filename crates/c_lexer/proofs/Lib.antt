@@ -12,3 +12,4 @@ pub mod Lexed
 pub mod Sorts
 pub mod Unique
 pub mod Followed
+pub mod Endings

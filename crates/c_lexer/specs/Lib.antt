@@ -6,3 +6,4 @@ pub mod Cut
 pub mod Classes
 pub mod Machine
 pub mod Running
+pub mod Lexing

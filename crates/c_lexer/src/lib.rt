@@ -3,6 +3,7 @@
 
 mod class;
 pub mod context;
+mod ending;
 mod held;
 mod joins;
 mod machine;
