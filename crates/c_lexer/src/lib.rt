@@ -6,6 +6,7 @@ pub mod context;
 mod ending;
 mod held;
 mod joins;
+pub mod lexer;
 mod machine;
 mod mode;
 mod number;
