@@ -41,7 +41,7 @@ pub step_follows : (old new : Machine) (mode : Mode) (at b : ℕ) → old.piece.
 step_follows old new mode at b e h =
     subst (Follows old new) (ap (λ m. in_mode old.piece.line old.piece.before m old.text.1 at b) (sym e) ∙ text_free old.piece.line old.piece.before old.piece.mode old.text.1 at b) h
 
-gives_gives : (ts us : List Token) (m : Move) → gives ts (gives us m) ≡ gives (ts ++ us) m
+pub gives_gives : (ts us : List Token) (m : Move) → gives ts (gives us m) ≡ gives (ts ++ us) m
 gives_gives ts us m = ap (λ z. record { whole = z; next = m.next }) (sym (append_assoc ts us m.whole))
 
 -- a run by one more byte

@@ -13,3 +13,4 @@ pub mod Sorts
 pub mod Unique
 pub mod Followed
 pub mod Endings
+pub mod Standing

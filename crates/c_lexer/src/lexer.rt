@@ -1,8 +1,9 @@
 //! The lexer, which takes a text in pieces.
 
-ghost use Rattle.std.specs.Prelude.{◌≡◌, ℕ, ◌+◌, ◌<◌, ◌^◌, List, [], ◌∷◌, ◌++◌, length, OnOk, OnErr, IfOk, IfErr};
+ghost use Rattle.std.specs.Prelude.{◌≡◌, ◌⊎◌, ℕ, ◌+◌, ◌<◌, ◌^◌, List, [], ◌∷◌, ◌++◌, length, OnOk, OnErr, IfOk, IfErr};
 ghost use Rattle.c_lexer.specs.declared.token.Token.{Token};
-ghost use Rattle.c_lexer.specs.Cut.{Cut, IsFault};
+ghost use Rattle.c_lexer.specs.declared.token.LexKind.{LexKind};
+ghost use Rattle.c_lexer.specs.Cut.{Cut, FirstFault, IsFault};
 ghost use Rattle.c_lexer.specs.Lexing.{StandsFor, fed};
 
 use crate::machine::Machine;
@@ -92,8 +93,12 @@ pub fn lex(alloc: Global, text: &[u8]) -> Result<Vec<Token>, LexFault>
     lexer.finish()
 }
 
-/// A text has at most one cut, at most one first fault, and not both.
+/// Each text has one answer: one cut, or one first fault.
 pub fn one_answer()
     ensures cut { (text : List ℕ) (these those : List Token) → Cut text these → Cut text those → these ≡ those }
+    ensures fault { (text : List ℕ) (this that : LexKind) (here there : ℕ) → FirstFault text this here → FirstFault text that there
+        → (this ≡ that) × (here ≡ there) }
+    ensures not_both { (text : List ℕ) (tokens : List Token) (kind : LexKind) (place : ℕ) → Cut text tokens → FirstFault text kind place → ⊥ }
+    ensures some { (text : List ℕ) → ((tokens : List Token) × Cut text tokens) ⊎ ((kind : LexKind) × (place : ℕ) × FirstFault text kind place) }
 {
 }
