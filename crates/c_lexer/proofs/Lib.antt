@@ -14,3 +14,4 @@ pub mod Unique
 pub mod Followed
 pub mod Endings
 pub mod Standing
+pub mod LineLemmas

@@ -7,3 +7,4 @@ pub mod Classes
 pub mod Machine
 pub mod Running
 pub mod Lexing
+pub mod Lines

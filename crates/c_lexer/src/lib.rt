@@ -7,6 +7,7 @@ mod ending;
 mod held;
 mod joins;
 pub mod lexer;
+pub mod line_map;
 mod machine;
 mod mode;
 mod number;
