@@ -15,3 +15,4 @@ pub mod Followed
 pub mod Endings
 pub mod Standing
 pub mod LineLemmas
+pub mod Tables

@@ -8,3 +8,4 @@ pub mod Machine
 pub mod Running
 pub mod Lexing
 pub mod Lines
+pub mod Words

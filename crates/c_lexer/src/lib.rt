@@ -13,3 +13,4 @@ mod mode;
 mod number;
 mod punctuator;
 pub mod token;
+pub mod words;
