@@ -12,5 +12,7 @@ mod machine;
 mod mode;
 mod number;
 mod punctuator;
+#[cfg(test)]
+mod tests;
 pub mod token;
 pub mod words;
