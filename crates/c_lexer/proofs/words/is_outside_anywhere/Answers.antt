@@ -1,0 +1,8 @@
+use Rattle.std.proofs.Common.{◌∙◌, ap}
+use Rattle.c_lexer.specs.Words.{is_among, is_outside_anywhere}
+use Rattle.c_lexer.proofs.Tables.{same_outside}
+use Rattle.c_lexer.proofs.words.is_outside_anywhere.Goals as goal
+
+pub returns : goal.returns
+unfolding is_outside_anywhere
+returns c = c.is_among.ensures ∙ ap (λ words. is_among words c.args.word.now) same_outside

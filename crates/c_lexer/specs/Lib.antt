@@ -1,0 +1,11 @@
+pub mod Bytes
+pub mod Numbers
+pub mod Lexemes
+pub mod Comments
+pub mod Cut
+pub mod Classes
+pub mod Machine
+pub mod Running
+pub mod Lexing
+pub mod Lines
+pub mod Words
