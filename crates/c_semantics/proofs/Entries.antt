@@ -4,7 +4,7 @@ use Rattle.std.specs.Prelude.{unwrap_or}
 use Rattle.c_tree.specs.Bare.{Name, Stmt, for_, block, omp, Stmts, no_stmts, more_stmts, head, Directive}
 use Rattle.c_tree.specs.declared.tree.Ty.{Ty}
 use Rattle.c_semantics.specs.Meaning.State.{State, look}
-use Rattle.c_semantics.specs.Meaning.Arithmetic.{and_then}
+use Rattle.c_tree.specs.Arithmetic.{and_then}
 use Rattle.c_semantics.specs.Meaning.Expressions.{Define, name_type}
 use Rattle.c_semantics.specs.Loops.CanonicalForm.{Canonical, canonical}
 use Rattle.c_semantics.specs.Loops.TripCount.{loop_type}

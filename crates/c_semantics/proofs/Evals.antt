@@ -2,9 +2,10 @@
 use Rattle.std.proofs.Common.{◌≡◌, refl, ap, ℕ, List, [], ◌∷◌, Result, Ok, Err}
 use Rattle.c_tree.specs.Bare.{Name, Expr, num, read, item, un, bin, cond, cast, Exprs, no_exprs, more_exprs}
 use Rattle.c_semantics.specs.Meaning.State.{State, look}
-use Rattle.c_semantics.specs.Meaning.Arithmetic.{Trap, and_then}
+use Rattle.c_tree.specs.declared.arithmetic.Trap.{Trap}
+use Rattle.c_tree.specs.Arithmetic.{and_then}
 use Rattle.c_semantics.specs.Meaning.Expressions.{Define, type_of, eval, place, name_type, in_dim}
-use Rattle.c_semantics.specs.Meaning.Arithmetic.{un_type}
+use Rattle.c_tree.specs.Arithmetic.{un_type}
 use Rattle.c_semantics.specs.Laws.Names.{Names, NamesEach}
 
 pub value_same : {A B : Type 0} (r : Result A Trap) (f g : A → Result B Trap) → ((a : A) → f a ≡ g a) → and_then r f ≡ and_then r g

@@ -3,7 +3,7 @@ use Rattle.std.proofs.Common.{◌≡◌, refl, sym, ap, ◌∙◌, subst, ℕ, z
 use Rattle.c_tree.specs.Bare.{Name, Exprs, Stmt, decl, set, step, print, input, if_, if_else, while_, do_, for_, block, break_, continue_, empty, omp, call, Stmts, no_stmts, more_stmts, head, MaybeStmt, no_stmt, a_stmt}
 use Rattle.c_tree.specs.declared.tree.Ty.{Ty}
 use Rattle.c_semantics.specs.Meaning.State.{Var, State, count_turn}
-use Rattle.c_semantics.specs.Meaning.Arithmetic.{Trap}
+use Rattle.c_tree.specs.declared.arithmetic.Trap.{Trap}
 use Rattle.c_semantics.specs.Meaning.Expressions.{Define}
 use Rattle.c_semantics.specs.Meaning.Runs.{End, Next, Break, Continue, Trapped, Cut, Run, Meaning, on_next, then_do, with_value, leave, in_block, turn_end, loop_end, with_end, ask, repeat, repeat_after, turn_of, for_turn}
 use Rattle.c_semantics.specs.Meaning.SimpleStatements.{holds_in, head_test, Function, Env, function_named, arguments, call_end, in_frame, call_of}

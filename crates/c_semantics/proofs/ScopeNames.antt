@@ -4,7 +4,8 @@ use Rattle.std.specs.Prelude.{if◌then◌else◌, bytes_eq}
 use Rattle.c_tree.specs.Bare.{Name, Exprs, no_exprs, more_exprs, Param}
 use Rattle.c_tree.specs.declared.tree.Ty.{Ty}
 use Rattle.c_semantics.specs.Meaning.State.{Cell, scalar, Var, State}
-use Rattle.c_semantics.specs.Meaning.Arithmetic.{Trap, and_then, convert}
+use Rattle.c_tree.specs.declared.arithmetic.Trap.{Trap}
+use Rattle.c_tree.specs.Arithmetic.{and_then, convert}
 use Rattle.c_semantics.specs.Meaning.Expressions.{Define, eval}
 use Rattle.c_semantics.specs.Meaning.SimpleStatements.{arguments}
 use Rattle.c_semantics.specs.Loops.CanonicalForm.{Canonical}

@@ -8,7 +8,8 @@ use Rattle.c_tree.specs.declared.tree.Ty.TheVariants.{Int, Long}
 use Rattle.c_tree.specs.declared.tree.SetOp.{SetOp}
 use Rattle.c_tree.specs.declared.tree.SetOp.TheVariants.{Add, Sub}
 use Rattle.c_semantics.specs.Meaning.State.{Cell, scalar, Var, State, look, store, push, keep, print_line, count_turn, with_frame}
-use Rattle.c_semantics.specs.Meaning.Arithmetic.{Trap, and_then, convert}
+use Rattle.c_tree.specs.declared.arithmetic.Trap.{Trap}
+use Rattle.c_tree.specs.Arithmetic.{and_then, convert}
 use Rattle.c_semantics.specs.Meaning.Expressions.{Define, eval}
 use Rattle.c_semantics.specs.Meaning.Runs.{End, Next, Break, Continue, Trapped, Cut, Run, Meaning, ends, on_next, then_do, with_value, leave, in_block, turn_end, loop_end, with_end, ask, repeat, repeat_after, turn_of, for_turn, while_loop}
 use Rattle.c_semantics.specs.Meaning.SimpleStatements.{holds_in, head_test, changed, type_in, set_to, next_input, rest_of, take_input, Function, Env, function_named, arguments, in_frame, call_of}

@@ -1,6 +1,5 @@
 -- What expressions, statements and programs do.
 pub mod State
-pub use Rattle.c_tree.specs.Arithmetic
 pub mod Expressions
 pub mod Runs
 pub mod SimpleStatements

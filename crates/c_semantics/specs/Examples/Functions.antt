@@ -5,7 +5,7 @@ use Rattle.c_tree.specs.declared.tree.Ty.TheVariants.{Int, Long}
 use Rattle.c_tree.specs.declared.tree.BinOp.TheVariants.{Add, Mul}
 use Rattle.c_tree.specs.declared.tree.SetOp.TheVariants as assigned
 use Rattle.c_tree.specs.declared.tree.Kind.TheVariants.{Reverse}
-use Rattle.c_semantics.specs.Meaning.Arithmetic.{Narrow}
+use Rattle.c_tree.specs.declared.arithmetic.Trap.TheVariants.{Narrow}
 use Rattle.c_semantics.specs.Meaning.Programs.{Ended, Stopped}
 use Rattle.c_semantics.specs.Structure.Parts.{leaf, Call}
 use Rattle.c_semantics.specs.Structure.Skeleton.{skeleton}

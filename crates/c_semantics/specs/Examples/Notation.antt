@@ -7,7 +7,7 @@ use Rattle.c_tree.specs.declared.tree.BinOp.TheVariants.{Lt}
 use Rattle.c_tree.specs.declared.tree.SetOp.{SetOp}
 use Rattle.c_tree.specs.declared.tree.SetOp.TheVariants.{Plain}
 use Rattle.c_tree.specs.declared.tree.Kind.{Kind}
-use Rattle.c_semantics.specs.Meaning.Arithmetic.{Trap}
+use Rattle.c_tree.specs.declared.arithmetic.Trap.{Trap}
 use Rattle.c_semantics.specs.Meaning.Runs.{Run}
 use Rattle.c_semantics.specs.Meaning.Programs.{Finish, Ended, Stopped, finish, run_program}
 use Rattle.c_semantics.specs.Structure.Parts.{Shape, round, leaf, shapes_of, For, Print}

@@ -6,7 +6,7 @@ use Rattle.c_tree.specs.declared.tree.UnOp.TheVariants.{Neg}
 use Rattle.c_tree.specs.declared.tree.BinOp.TheVariants.{Add, Sub, Rem, Lt, Le, Ne, Eq}
 use Rattle.c_tree.specs.declared.tree.SetOp.TheVariants as assigned
 use Rattle.c_tree.specs.declared.tree.Kind.TheVariants.{Tile, Unroll, Reverse, Split}
-use Rattle.c_semantics.specs.Meaning.Arithmetic.{Overflow}
+use Rattle.c_tree.specs.declared.arithmetic.Trap.TheVariants.{Overflow}
 use Rattle.c_semantics.specs.Meaning.Programs.{Stopped, CutOff}
 use Rattle.c_semantics.specs.Examples.Notation.{int, long, exprs, list, only, assign, up, for_declared, for_assigned, for_from, for_to, print_all, directed, in_main, unbounded, Does, Prints, nats, f, p, HasLoops}
 

@@ -6,7 +6,9 @@ use Rattle.c_tree.specs.declared.tree.BinOp.TheVariants.{Mul, Div, Add, Sub, Lt}
 use Rattle.c_tree.specs.declared.tree.SetOp.TheVariants as assigned
 use Rattle.c_tree.specs.declared.tree.SetOp.TheVariants.{Plain}
 use Rattle.c_tree.specs.declared.tree.Kind.TheVariants.{Tile, Interchange, Reverse, Split, Fuse}
-use Rattle.c_semantics.specs.Meaning.Arithmetic.{Trap, DivideByZero, and_then}
+use Rattle.c_tree.specs.declared.arithmetic.Trap.{Trap}
+use Rattle.c_tree.specs.declared.arithmetic.Trap.TheVariants.{DivideByZero}
+use Rattle.c_tree.specs.Arithmetic.{and_then}
 use Rattle.c_semantics.specs.Meaning.State.{State, nowhere}
 use Rattle.c_semantics.specs.Meaning.Expressions.{Define}
 use Rattle.c_semantics.specs.Loops.IterationTrees.{Tree, forest_leaves}

@@ -6,7 +6,7 @@ use Rattle.c_tree.specs.declared.tree.UnOp.TheVariants.{Neg}
 use Rattle.c_tree.specs.declared.tree.BinOp.TheVariants.{Add, Sub, Div, Rem, Lt}
 use Rattle.c_tree.specs.declared.tree.SetOp.TheVariants as assigned
 use Rattle.c_semantics.specs.Meaning.State.{scalar}
-use Rattle.c_semantics.specs.Meaning.Arithmetic.{Overflow, DivideByZero, Unset, Narrow, Index, InputEnd}
+use Rattle.c_tree.specs.declared.arithmetic.Trap.TheVariants.{Overflow, DivideByZero, Unset, Narrow, Index, InputEnd}
 use Rattle.c_semantics.specs.Meaning.Programs.{Ended, Stopped, CutOff, outcome}
 use Rattle.c_semantics.specs.Structure.Parts.{round, leaf, shapes_of, While, Do, Set, Step}
 use Rattle.c_semantics.specs.Examples.Notation.{int, long, exprs, list, only, assign, up, for_declared, for_to, print_all, in_main, Does, Prints, Traps, nats, p, HasLoops}

@@ -3,7 +3,7 @@ use Rattle.std.specs.Prelude.{ℕ, zero, suc, List, [], ◌∷◌, Option, Some,
 use Rattle.c_tree.specs.Bare.{Name}
 use Rattle.c_tree.specs.declared.tree.Ty.{Ty}
 use Rattle.c_semantics.specs.Meaning.State.{scalar, State, push, count_turn}
-use Rattle.c_semantics.specs.Meaning.Arithmetic.{Trap}
+use Rattle.c_tree.specs.declared.arithmetic.Trap.{Trap}
 use Rattle.c_semantics.specs.Meaning.Expressions.{Define}
 use Rattle.c_semantics.specs.Meaning.Runs.{Next, Cut, Meaning, ends, then_do, with_value, leave, turn_end, with_end}
 use Rattle.c_semantics.specs.Loops.CanonicalForm.{Canonical}

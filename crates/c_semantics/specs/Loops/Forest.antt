@@ -3,7 +3,9 @@
 use Rattle.std.specs.Prelude.{ℕ, zero, suc, ◌+◌, List, [], ◌∷◌, ◌++◌, Option, Some, None, Result, Ok, Err}
 use Rattle.c_tree.specs.Bare.{Stmt, for_, block, omp, Stmts, no_stmts, more_stmts, Directive}
 use Rattle.c_semantics.specs.Meaning.State.{State}
-use Rattle.c_semantics.specs.Meaning.Arithmetic.{Trap, Unset, and_then}
+use Rattle.c_tree.specs.declared.arithmetic.Trap.{Trap}
+use Rattle.c_tree.specs.declared.arithmetic.Trap.TheVariants.{Unset}
+use Rattle.c_tree.specs.Arithmetic.{and_then}
 use Rattle.c_semantics.specs.Meaning.Expressions.{Define}
 use Rattle.c_semantics.specs.Loops.CanonicalForm.{Canonical, canonical}
 use Rattle.c_semantics.specs.Loops.TripCount.{Range, value_at, entry}

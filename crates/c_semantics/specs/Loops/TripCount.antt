@@ -6,7 +6,9 @@ use Rattle.c_tree.specs.declared.tree.Ty.{Ty}
 use Rattle.c_tree.specs.declared.tree.BinOp.{BinOp}
 use Rattle.c_tree.specs.declared.tree.BinOp.TheVariants.{Le, Ge}
 use Rattle.c_semantics.specs.Meaning.State.{State, look}
-use Rattle.c_semantics.specs.Meaning.Arithmetic.{Trap, Overflow, and_then, or_trap, convert}
+use Rattle.c_tree.specs.declared.arithmetic.Trap.{Trap}
+use Rattle.c_tree.specs.declared.arithmetic.Trap.TheVariants.{Overflow}
+use Rattle.c_tree.specs.Arithmetic.{and_then, or_trap, convert}
 use Rattle.c_semantics.specs.Meaning.Expressions.{Define, name_type, eval}
 use Rattle.c_semantics.specs.Loops.CanonicalForm.{Canonical}
 

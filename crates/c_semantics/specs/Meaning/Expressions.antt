@@ -4,7 +4,9 @@ use Rattle.c_tree.specs.Bare.{Name, Expr, num, read, item, un, bin, cond, cast, 
 use Rattle.c_tree.specs.declared.tree.Ty.{Ty}
 use Rattle.c_tree.specs.declared.tree.Ty.TheVariants.{Int}
 use Rattle.c_semantics.specs.Meaning.State.{Cell, scalar, array, State, look, nowhere}
-use Rattle.c_semantics.specs.Meaning.Arithmetic.{Trap, Index, Unset, and_then, common, convert, bin_type, un_type, is_zero, apply_bin, apply_un, settles, unless_settled}
+use Rattle.c_tree.specs.declared.arithmetic.Trap.{Trap}
+use Rattle.c_tree.specs.declared.arithmetic.Trap.TheVariants.{Index, Unset}
+use Rattle.c_tree.specs.Arithmetic.{and_then, common, convert, bin_type, un_type, is_zero, apply_bin, apply_un, settles, unless_settled}
 
 -- a define: a constant of a type
 pub record Define : Type 0 where

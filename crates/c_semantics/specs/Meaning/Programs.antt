@@ -3,7 +3,7 @@ use Rattle.std.specs.Prelude.{ℕ, ◌*◌, List, [], ◌∷◌, ◌++◌, map, 
 use Rattle.c_tree.specs.Bare.{Name, Expr, expr_list, Top, define, global, function, main, Program}
 use Rattle.c_tree.specs.declared.tree.Ty.{Ty}
 use Rattle.c_semantics.specs.Meaning.State.{Cell, scalar, array, Var, State, with_globals}
-use Rattle.c_semantics.specs.Meaning.Arithmetic.{Trap}
+use Rattle.c_tree.specs.declared.arithmetic.Trap.{Trap}
 use Rattle.c_semantics.specs.Meaning.Expressions.{Define, constant}
 use Rattle.c_semantics.specs.Meaning.Runs.{End, Next, Trapped, Cut, Run, ends, in_block}
 use Rattle.c_semantics.specs.Meaning.SimpleStatements.{Env}

@@ -2,7 +2,7 @@
 -- jumps `break` and `continue`, and loops with a bound on their turns.
 use Rattle.std.specs.Prelude.{ℕ, zero, suc, length, Result, Ok, Err, Bool, true, false}
 use Rattle.c_semantics.specs.Meaning.State.{State, keep, count_turn, with_frame}
-use Rattle.c_semantics.specs.Meaning.Arithmetic.{Trap}
+use Rattle.c_tree.specs.declared.arithmetic.Trap.{Trap}
 
 -- how a statement ends; Cut where a loop asks for a turn beyond the bound
 pub data End : Type 0 where

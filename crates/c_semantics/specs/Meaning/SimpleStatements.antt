@@ -9,7 +9,9 @@ use Rattle.c_tree.specs.declared.tree.SetOp.{SetOp}
 use Rattle.c_tree.specs.declared.tree.SetOp.TheVariants.{Plain, Add, Sub, Mul, Div, Rem}
 use Rattle.c_tree.specs.declared.tree.BinOp.TheVariants as op
 use Rattle.c_semantics.specs.Meaning.State.{Cell, scalar, array, Var, State, look, store, push, print_line, with_frame}
-use Rattle.c_semantics.specs.Meaning.Arithmetic.{Trap, Unset, InputEnd, and_then, common, convert, apply_bin, is_zero}
+use Rattle.c_tree.specs.declared.arithmetic.Trap.{Trap}
+use Rattle.c_tree.specs.declared.arithmetic.Trap.TheVariants.{Unset, InputEnd}
+use Rattle.c_tree.specs.Arithmetic.{and_then, common, convert, apply_bin, is_zero}
 use Rattle.c_semantics.specs.Meaning.Expressions.{Define, cell_type, type_of, eval, place, dims_of, or_unset}
 use Rattle.c_semantics.specs.Meaning.Runs.{End, Next, Break, Continue, Trapped, Meaning, ends, with_value}
 

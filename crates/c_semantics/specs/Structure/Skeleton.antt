@@ -4,7 +4,7 @@
 use Rattle.std.specs.Prelude.{ℕ, zero, suc, List, [], ◌∷◌, ◌++◌, map, Option, Some, None, Result, Ok, Err, Bool, false, ◌&&◌, ◌==◌, flat_map, if◌then◌else◌}
 use Rattle.c_tree.specs.Bare.{Param, Expr, num, Stmt, decl, set, step, print, input, if_, if_else, while_, do_, for_, block, omp, call, Stmts, no_stmts, more_stmts, head, MaybeStmt, no_stmt, a_stmt, define, global, function, main, Program}
 use Rattle.c_semantics.specs.Meaning.State.{scalar, Var, State, push, with_globals, with_frame, nowhere}
-use Rattle.c_semantics.specs.Meaning.Arithmetic.{Trap}
+use Rattle.c_tree.specs.declared.arithmetic.Trap.{Trap}
 use Rattle.c_semantics.specs.Meaning.Expressions.{Define, only_constants}
 use Rattle.c_semantics.specs.Meaning.Programs.{define_of}
 use Rattle.c_semantics.specs.Loops.CanonicalForm.{Canonical, canonical}
