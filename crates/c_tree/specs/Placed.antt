@@ -1,7 +1,7 @@
--- The tree with places: a program as the bare tree has it, with the span of each node, of each declared, defined or
--- called name, and with the three places of a `for` head and that of the word `input`. Rules that name a place go over it. The span of a node comes
--- last, and that of a name beside the name.
-use Rattle.std.specs.Prelude.{ℕ, List, [], ◌∷◌, Option, Bool}
+-- The tree with places: a program as the bare tree has it, with the span of each node, that of each declared, defined
+-- or called name, the three places of a `for` head and that of the word `input`. Rules that name a place go over it.
+-- The span of a node comes last, and that of a name beside the name.
+use Rattle.std.specs.Prelude.{ℕ, List, Option, Bool}
 use Rattle.c_tree.specs.declared.tree.Span.{Span}
 use Rattle.c_tree.specs.declared.tree.Ty.{Ty}
 use Rattle.c_tree.specs.declared.tree.UnOp.{UnOp}
@@ -105,11 +105,6 @@ pub data Top : Type 0 where
 
 abbrev pub Program : Type 0
 Program = List Top
-
--- the elements in order
-abbrev pub expr_list : Exprs → List Expr
-expr_list no_exprs = []
-expr_list (more_exprs e es) = e ∷ expr_list es
 
 -- where a node stands
 abbrev pub expr_span : Expr → Span

@@ -8,8 +8,7 @@ use crate::name::Name;
 use crate::place::line_col;
 use crate::tree::{
     ApplyItem, ApplyList, BinOp, Clause, ClauseKind, ClauseList, Count, CountList, Directive, Expr,
-    ExprList, ForHead, Item, ItemList, Kind, Param, Port, Program, SetOp, Span, Stmt, StmtList,
-    Target, Ty, UnOp,
+    ForHead, Item, Kind, Param, Port, Program, SetOp, Span, Stmt, StmtList, Target, Ty, UnOp,
 };
 use std::alloc::{AllocError, Global};
 use std::collections::HashMap;
