@@ -1,7 +1,0 @@
-//! The name rules: whether a program breaks one, and which it breaks first.
-#![tactic(auto)]
-
-pub mod expressions;
-pub mod known;
-pub mod least;
-pub mod statements;
