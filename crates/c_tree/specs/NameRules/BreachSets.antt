@@ -5,7 +5,6 @@ use Rattle.c_tree.specs.declared.name_rule.NameRule.TheVariants.{N1, N2, N3, N4,
 use Rattle.c_tree.specs.declared.name_rule.Breach.{Breach}
 
 infixr 5 ◌&◌
-
 -- no breach, one, or those of two sets
 pub data BreachSet : Type 0 where
   none : BreachSet
