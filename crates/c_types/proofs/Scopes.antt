@@ -93,7 +93,7 @@ head_input s (head init init_at test test_at next next_at) = part_input (after_p
 abbrev pub known_with : Scope → List Name → ℕ → Known
 known_with s ns elements = record { scope = s; names = ns; elements = elements }
 
-abbrev after_leaving : ℕ → Known → Known
+abbrev pub after_leaving : ℕ → Known → Known
 after_leaving round k = record k { scope = scope_left round k.scope }
 
 pub left_head : (old headed mid new : Known) (h : Head) (ns ms : List Name) (round : ℕ) → round ≡ length old.scope.outside → headed ≡ known_with (after_head old.scope h) ns old.elements → mid ≡ known_with headed.scope ms headed.elements → new ≡ after_leaving round mid → new ≡ known_with old.scope ms old.elements

@@ -1,7 +1,7 @@
 //! What is known at a place of a program: the declarations that are visible there, the names that were declared before
 //! it, and how many elements the arrays before it have.
 
-ghost use Rattle.std.specs.Prelude.{◌≡◌, ◌≤◌, ◌<◌, ◌+◌, OnOk, length, reverse};
+ghost use Rattle.std.specs.Prelude.{◌≡◌, ◌≤◌, ◌<◌, ◌+◌, OnOk, length, reverse, if◌then◌else◌};
 ghost use Rattle.c_tree.specs.NameRules.Scopes as scopes;
 ghost use Rattle.c_tree.specs.NameRules.Programs as programs;
 ghost use Rattle.c_tree.specs.NameRules.DeclaredNames as names;
@@ -31,16 +31,15 @@ pub struct Table {
 }
 
 impl Model for Table {
-    ghost use Rattle.std.specs.Prelude.{◌≤◌, length};
     ghost use Rattle.c_tree.specs.NameRules.Programs.{Known};
 
     ghost Value = { Known };
 
-    ghost use Rattle.c_types.specs.Visible.{known_of};
+    ghost use Rattle.c_types.specs.Visible.{known_of, IsTable};
 
     ghost view = { known_of };
 
-    ghost invariant = { λ t. t.start ≤ length t.declared.items };
+    ghost invariant = { IsTable };
 }
 
 impl Table {
@@ -97,13 +96,16 @@ impl Table {
         self.input_known
     }
 
+    /// The elements of all arrays so far, where one more than the limit stands for any greater number.
     pub fn elements(&self) -> u64
-        ensures { result ≡ self.now.elements }
+        ensures elements { result ≡ self.now.elements }
+        ensures most { result ≤ programs.most_elements + 1 }
     {
         self.elements
     }
 
     pub fn set_elements(&mut self, elements: u64)
+        requires { elements ≤ programs.most_elements + 1 }
         ensures { self.new ≡ record self.old { elements = elements } }
     {
         self.elements = elements;
@@ -156,6 +158,20 @@ impl Table {
         } else {
             self.add(name, entity)
         }
+    }
+
+    /// Defines a name, unless it was declared or defined before in any scope.
+    #[tactic(auto, using(crate::proofs::Tables::tables))]
+    pub fn define(&mut self, name: &Name, constant: TypedValue) -> Result<(), AllocError>
+        ensures { OnOk result (self.new ≡ record self.old {
+          scope = (if names.is_among name.now self.old.names then self.old.scope else scopes.add name.now (Entity.Define constant) self.old.scope);
+          names = names.with_name name.now self.old.names;
+        }) }
+    {
+        if self.is_among(name) {
+            return Ok(());
+        }
+        self.add(name, Entity::Define(constant))
     }
 
     /// How many declarations stand round this scope.
