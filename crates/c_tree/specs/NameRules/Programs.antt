@@ -1,11 +1,12 @@
 -- Where a program breaks a name rule: its breaches, each a rule with its place, item by item.
 use Rattle.std.specs.Prelude.{ℕ, ◌+◌, ◌*◌, ◌^◌, min, nat_abs, List, [], ◌∷◌, ◌++◌, length, Option, Some, None, Bool, true, false, not, ◌&&◌, ◌==◌, nat_lt, int_le, ℤ, pos, unwrap_or, if◌then◌else◌}
 use Rattle.c_tree.specs.Bare.{Name}
-use Rattle.c_tree.specs.Placed.{Expr, Exprs, no_exprs, more_exprs, expr_list, expr_span, Param, Top, define, extern_, global, function, main, Program}
+use Rattle.c_tree.specs.Placed.{Expr, Exprs, no_exprs, more_exprs, expr_list, expr_span, Param, Stmts, Top, define, extern_, global, function, main, Program}
 use Rattle.c_tree.specs.Forget.{forget_expr}
 use Rattle.c_tree.specs.declared.tree.Ty.{Ty}
 use Rattle.c_tree.specs.declared.tree.Port.{Port}
 use Rattle.c_tree.specs.declared.tree.Port.TheVariants.{Print, Input}
+use Rattle.c_tree.specs.declared.constant.TypedValue.{TypedValue}
 use Rattle.c_tree.specs.declared.name_rule.NameRule.TheVariants.{N2, N5, N8, N9}
 use Rattle.c_tree.specs.NameRules.BreachSets.{BreachSet, none, ◌&◌}
 use Rattle.c_tree.specs.declared.name_rule.Entity.TheVariants.{Define, Variable, Function}
@@ -90,36 +91,53 @@ more_elements k x dims = min (k.elements + elements_of (with_global k.scope x di
 abbrev pub in_params : Scope → List Param → Scope
 in_params s params = with_params (inner s) params
 
-abbrev pub top_breaches : Known → Top → BreachSet
 -- N2: a name is defined after a define or a declaration of it, in any scope
-top_breaches k (define x negative value t at) = breach_if (is_among x k.names) N2 at.start
-top_breaches k (extern_ port span) = none
-top_breaches k (global t x at dims init) =
-    declare_breaches k.scope x at.start
+abbrev pub define_breaches : Known → Name → ℕ → BreachSet
+define_breaches k x at = breach_if (is_among x k.names) N2 at
+
+abbrev pub with_define : Known → Name → TypedValue → Known
+with_define k x c =
+    record k {
+      scope = if is_among x k.names then k.scope else add x (Define c) k.scope;
+      names = with_name x k.names
+    }
+
+abbrev pub global_breaches : Known → Ty → Name → ℕ → Exprs → Option Expr → BreachSet
+global_breaches k t x at dims init =
+    declare_breaches k.scope x at
     & (dims_breaches (with_global k.scope x dims) 0 dims
-    & (size_breaches (more_elements k x dims) at.start dims
+    & (size_breaches (more_elements k x dims) at dims
     & initial_breaches (with_global k.scope x dims) t init))
--- a function is visible after its closing brace
-top_breaches k (function x at params body span) =
-    declare_breaches k.scope x at.start
+
+abbrev pub with_array : Known → Name → Exprs → Known
+with_array k x dims = record { scope = with_global k.scope x dims; names = with_name x k.names; elements = more_elements k x dims }
+
+abbrev pub function_breaches : Known → Name → ℕ → List Param → Stmts → BreachSet
+function_breaches k x at params body =
+    declare_breaches k.scope x at
     & (params_breaches (inner k.scope) params & stmts_breaches true false (in_params k.scope params) body)
+
+-- a function is visible after its closing brace
+abbrev pub with_function : Known → Name → List Param → Stmts → Known
+with_function k x params body =
+    record k {
+      scope = declare x (Function (length params) (function_depth (in_params k.scope params) body)) k.scope;
+      names = with_name x (names.with_stmts (names.with_params k.names params) body)
+    }
+
+abbrev pub top_breaches : Known → Top → BreachSet
+top_breaches k (define x negative value t at) = define_breaches k x at.start
+top_breaches k (extern_ port span) = none
+top_breaches k (global t x at dims init) = global_breaches k t x at.start dims init
+top_breaches k (function x at params body span) = function_breaches k x at.start params body
 top_breaches k (main body span) = stmts_breaches false false (inner k.scope) body
 
 -- what is known after an item
 abbrev pub known_after : Known → Top → Known
-known_after k (define x negative value t at) =
-    record k {
-      scope = if is_among x k.names then k.scope else add x (Define (defined_as negative value t)) k.scope;
-      names = with_name x k.names;
-    }
+known_after k (define x negative value t at) = with_define k x (defined_as negative value t)
 known_after k (extern_ port span) = record k { scope = with_port port k.scope }
-known_after k (global t x at dims init) =
-    record { scope = with_global k.scope x dims; names = with_name x k.names; elements = more_elements k x dims }
-known_after k (function x at params body span) =
-    record k {
-      scope = declare x (Function (length params) (function_depth (in_params k.scope params) body)) k.scope;
-      names = with_name x (names.with_stmts (names.with_params k.names params) body);
-    }
+known_after k (global t x at dims init) = with_array k x dims
+known_after k (function x at params body span) = with_function k x params body
 known_after k (main body span) = record k { names = names.with_stmts k.names body }
 
 -- ---- programs

@@ -1,0 +1,11 @@
+pub mod Bares
+pub mod Clauses
+pub mod Dimensions
+pub mod Heads
+pub mod Initials
+pub mod Lists
+pub mod Order
+pub mod Params
+pub mod Programs
+pub mod Scopes
+pub mod Tables

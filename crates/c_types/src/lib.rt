@@ -1,0 +1,9 @@
+//! The name rules: whether a program breaks one, and which it breaks first.
+#![tactic(auto)]
+
+pub mod check;
+pub mod expressions;
+pub mod items;
+pub mod known;
+pub mod least;
+pub mod statements;
