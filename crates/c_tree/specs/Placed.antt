@@ -1,7 +1,7 @@
 -- The tree with places: a program as the bare tree has it, with the span of each node, that of each declared, defined
 -- or called name, the three places of a `for` head and that of the word `input`. Rules that name a place go over it.
 -- The span of a node comes last, and that of a name beside the name.
-use Rattle.std.specs.Prelude.{ℕ, List, Option, Bool}
+use Rattle.std.specs.Prelude.{ℕ, List, [], ◌∷◌, Option, Bool}
 use Rattle.c_tree.specs.declared.tree.Span.{Span}
 use Rattle.c_tree.specs.declared.tree.Ty.{Ty}
 use Rattle.c_tree.specs.declared.tree.UnOp.{UnOp}
@@ -133,3 +133,8 @@ stmt_span (continue_ s) = s
 stmt_span (empty s) = s
 stmt_span (omp d ss s) = s
 stmt_span (call x at es s) = s
+
+-- the elements in order
+abbrev pub expr_list : Exprs → List Expr
+expr_list no_exprs = []
+expr_list (more_exprs e es) = e ∷ expr_list es

@@ -99,7 +99,7 @@ abbrev pub with_define : Known → Name → TypedValue → Known
 with_define k x c =
     record k {
       scope = if is_among x k.names then k.scope else add x (Define c) k.scope;
-      names = with_name x k.names
+      names = with_name x k.names;
     }
 
 abbrev pub global_breaches : Known → Ty → Name → ℕ → Exprs → Option Expr → BreachSet
@@ -122,7 +122,7 @@ abbrev pub with_function : Known → Name → List Param → Stmts → Known
 with_function k x params body =
     record k {
       scope = declare x (Function (length params) (function_depth (in_params k.scope params) body)) k.scope;
-      names = with_name x (names.with_stmts (names.with_params k.names params) body)
+      names = with_name x (names.with_stmts (names.with_params k.names params) body);
     }
 
 abbrev pub top_breaches : Known → Top → BreachSet
