@@ -71,16 +71,21 @@ pub fn push_line_end(tokens: &mut HeldTokens, line: Line, at: u64) -> Result<(),
 }
 
 impl Machine {
-    /// The rest of the text doesn't matter.
+    /// Opens a piece that holds no text.
+    fn enter(&mut self, line: Line, before: Before, mode: Mode)
+        ensures piece { self.new.piece ≡ record { line = line; before = before; mode = mode } }
+        ensures text { self.new.text ≡ self.old.text }
+        ensures tokens { self.new.tokens ≡ self.old.tokens }
+    {
+        self.piece = OpenPiece { line, before, mode };
+    }
+
+    /// The text has its first fault, so the rest of it doesn't matter.
     pub fn fail(&mut self, kind: LexKind, place: u64)
         ensures follows { Follows self.old self.new (faulted kind place) }
         ensures kept { IsKept self.old self.new }
     {
-        self.piece = OpenPiece {
-            line: Line::Fresh,
-            before: Before::Free,
-            mode: Mode::Faulted { kind, place },
-        };
+        self.enter(Line::Fresh, Before::Free, Mode::Faulted { kind, place });
     }
 
     /// A byte begins a piece.
@@ -92,61 +97,23 @@ impl Machine {
         match class_of(byte) {
             Class::Feed => {
                 push_line_end(&mut self.tokens, line, at)?;
-                self.piece = OpenPiece {
-                    line: Line::Fresh,
-                    before: Before::Free,
-                    mode: Mode::Between,
-                };
-                Ok(())
+                self.enter(Line::Fresh, Before::Free, Mode::Between);
             }
-            Class::Blank => {
-                self.piece = OpenPiece {
-                    line,
-                    before: Before::Free,
-                    mode: Mode::Between,
-                };
-                Ok(())
-            }
-            Class::Backslash => {
-                self.piece = OpenPiece {
-                    line,
-                    before,
-                    mode: Mode::Backslash { first: at },
-                };
-                Ok(())
-            }
+            Class::Blank => self.enter(line, Before::Free, Mode::Between),
+            Class::Backslash => self.enter(line, before, Mode::Backslash { first: at }),
             Class::Letter => {
                 self.text.begin(byte)?;
-                self.piece = OpenPiece {
-                    line,
-                    before,
-                    mode: Mode::Word { start: at },
-                };
-                Ok(())
+                self.enter(line, before, Mode::Word { start: at });
             }
             Class::Digit => {
                 self.text.begin(byte)?;
-                self.piece = OpenPiece {
-                    line,
-                    before,
-                    mode: Mode::Number { start: at, last: byte },
-                };
-                Ok(())
+                self.enter(line, before, Mode::Number { start: at, last: byte });
             }
-            Class::Hash => self.begin_directive(line, at),
-            Class::Punct(punct) => {
-                self.piece = OpenPiece {
-                    line,
-                    before,
-                    mode: Mode::Punct { start: at, punct },
-                };
-                Ok(())
-            }
-            Class::Other => {
-                self.fail(LexKind::BadByte, at);
-                Ok(())
-            }
+            Class::Hash => self.begin_directive(line, at)?,
+            Class::Punct(punct) => self.enter(line, before, Mode::Punct { start: at, punct }),
+            Class::Other => self.fail(LexKind::BadByte, at),
         }
+        Ok(())
     }
 
     /// A `#` begins a `#` line, where it is the first token on its line.
@@ -158,11 +125,7 @@ impl Machine {
         match line {
             Line::Fresh => {
                 push_token(&mut self.tokens, TokenKind::Hash, at, at + 1)?;
-                self.piece = OpenPiece {
-                    line: Line::Directive,
-                    before: Before::Solid,
-                    mode: Mode::Between,
-                };
+                self.enter(Line::Directive, Before::Solid, Mode::Between);
                 Ok(())
             }
             Line::Begun => {
