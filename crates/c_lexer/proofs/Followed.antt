@@ -19,28 +19,6 @@ gives_follows (Ok x) old mid new ts n m e f h = record {
     next = h.next ∙ ap (λ z. z.next) f }
 gives_follows (Err x) old mid new ts n m e f h = tt
 
--- the text of a piece without any doesn't matter
-text_free : (line : Line) (before : Before) (mode : Mode) (text : List ℕ) (at b : ℕ) → in_mode line before mode text at b ≡ in_mode line before mode (text_in mode text) at b
-text_free line before Between text at b = refl
-text_free line before (InWord start) text at b = refl
-text_free line before (InNumber start last) text at b = refl
-text_free line before (InPunct start p) text at b = refl
-text_free line before (TwoDots start second) text at b = refl
-text_free line before (Backslash first) text at b = refl
-text_free line before (BackslashReturn first) text at b = refl
-text_free line before (Joined first) text at b = refl
-text_free line before (JoinedBackslash first last) text at b = refl
-text_free line before (JoinedReturn first last) text at b = refl
-text_free line before (JoinedSlash first slash) text at b = refl
-text_free line before (Block start stage) text at b = refl
-text_free line before (LineComment stage) text at b = refl
-text_free line before (Faulted kind place) text at b = refl
-
--- what a mode's own function does is a step
-pub step_follows : (old new : Machine) (mode : Mode) (at b : ℕ) → old.piece.mode ≡ mode → Follows old new (in_mode old.piece.line old.piece.before mode old.text.1 at b) → Follows old new (step (state_of old) at b)
-step_follows old new mode at b e h =
-    subst (Follows old new) (ap (λ m. in_mode old.piece.line old.piece.before m old.text.1 at b) (sym e) ∙ text_free old.piece.line old.piece.before old.piece.mode old.text.1 at b) h
-
 pub gives_gives : (ts us : List Token) (m : Move) → gives ts (gives us m) ≡ gives (ts ++ us) m
 gives_gives ts us m = ap (λ z. record { whole = z; next = m.next }) (sym (append_assoc ts us m.whole))
 

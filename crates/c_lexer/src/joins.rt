@@ -1,6 +1,6 @@
 //! The machine in runs of joins and in comments.
 
-ghost use Rattle.std.specs.Prelude.{◌≡◌, ℕ, ◌<◌, ◌^◌, OnOk};
+ghost use Rattle.std.specs.Prelude.{◌≡◌, ◌<◌, ◌^◌, OnOk};
 ghost use Rattle.c_lexer.specs.Machine.{leaves_run, bad_backslash, block_stage, ends_block, line_stage, ends_line, in_mode};
 ghost use Rattle.c_lexer.specs.Running.{Follows, IsKept};
 
@@ -91,7 +91,7 @@ fn ends_line(stage: LineStage, byte: u8) -> bool
 impl Machine {
     /// A backslash begins a join, or nothing.
     pub fn in_backslash(&mut self, first: u64, byte: u8)
-        ensures follows { (at : ℕ) → Follows self.old self.new (in_mode self.old.piece.line self.old.piece.before (Mode.Backslash first) self.old.text.1 at byte) }
+        ensures follows { Follows self.old self.new (in_mode self.old.piece.line self.old.piece.before (Mode.Backslash first) self.old.text.1 0 byte) }
         ensures kept { IsKept self.old self.new }
     {
         if byte == b'\n' {
@@ -104,7 +104,7 @@ impl Machine {
     }
 
     pub fn in_backslash_return(&mut self, first: u64, byte: u8)
-        ensures follows { (at : ℕ) → Follows self.old self.new (in_mode self.old.piece.line self.old.piece.before (Mode.BackslashReturn first) self.old.text.1 at byte) }
+        ensures follows { Follows self.old self.new (in_mode self.old.piece.line self.old.piece.before (Mode.BackslashReturn first) self.old.text.1 0 byte) }
         ensures kept { IsKept self.old self.new }
     {
         if byte == b'\n' {
@@ -171,7 +171,7 @@ impl Machine {
     }
 
     pub fn in_joined_backslash(&mut self, first: u64, last: u64, byte: u8)
-        ensures follows { (at : ℕ) → Follows self.old self.new (in_mode self.old.piece.line self.old.piece.before (Mode.JoinedBackslash first last) self.old.text.1 at byte) }
+        ensures follows { Follows self.old self.new (in_mode self.old.piece.line self.old.piece.before (Mode.JoinedBackslash first last) self.old.text.1 0 byte) }
         ensures kept { IsKept self.old self.new }
     {
         if byte == b'\n' {
@@ -184,7 +184,7 @@ impl Machine {
     }
 
     pub fn in_joined_return(&mut self, first: u64, last: u64, byte: u8)
-        ensures follows { (at : ℕ) → Follows self.old self.new (in_mode self.old.piece.line self.old.piece.before (Mode.JoinedReturn first last) self.old.text.1 at byte) }
+        ensures follows { Follows self.old self.new (in_mode self.old.piece.line self.old.piece.before (Mode.JoinedReturn first last) self.old.text.1 0 byte) }
         ensures kept { IsKept self.old self.new }
     {
         if byte == b'\n' {
@@ -196,7 +196,7 @@ impl Machine {
 
     /// After a run that asks for white space or a comment, a `/` begins a comment, or the run is a fault.
     pub fn in_joined_slash(&mut self, first: u64, slash: u64, byte: u8)
-        ensures follows { (at : ℕ) → Follows self.old self.new (in_mode self.old.piece.line self.old.piece.before (Mode.JoinedSlash first slash) self.old.text.1 at byte) }
+        ensures follows { Follows self.old self.new (in_mode self.old.piece.line self.old.piece.before (Mode.JoinedSlash first slash) self.old.text.1 0 byte) }
         ensures kept { IsKept self.old self.new }
     {
         if byte == b'*' {
@@ -215,7 +215,7 @@ impl Machine {
 
     /// A block comment goes on, or ends with the byte.
     pub fn in_block(&mut self, start: u64, stage: BlockStage, byte: u8)
-        ensures follows { (at : ℕ) → Follows self.old self.new (in_mode self.old.piece.line self.old.piece.before (Mode.Block start stage) self.old.text.1 at byte) }
+        ensures follows { Follows self.old self.new (in_mode self.old.piece.line self.old.piece.before (Mode.Block start stage) self.old.text.1 0 byte) }
         ensures kept { IsKept self.old self.new }
     {
         if ends_block(stage, byte) {

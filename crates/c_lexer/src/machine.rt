@@ -271,42 +271,22 @@ impl Machine {
         ensures kept { IsKept self.old self.new }
     {
         match self.piece.mode {
-            Mode::Between => self.begin(self.piece.line, self.piece.before, at, byte),
-            Mode::Word { start } => self.in_word(start, at, byte),
-            Mode::Number { start, last } => self.in_number(start, last, at, byte),
-            Mode::Punct { start, punct } => self.in_punct(start, punct, at, byte),
-            Mode::TwoDots { start, second } => self.in_two_dots(start, second, at, byte),
-            Mode::Backslash { first } => {
-                self.in_backslash(first, byte);
-                Ok(())
-            }
-            Mode::BackslashReturn { first } => {
-                self.in_backslash_return(first, byte);
-                Ok(())
-            }
-            Mode::Joined { first } => self.in_joined(first, at, byte),
-            Mode::JoinedBackslash { first, last } => {
-                self.in_joined_backslash(first, last, byte);
-                Ok(())
-            }
-            Mode::JoinedReturn { first, last } => {
-                self.in_joined_return(first, last, byte);
-                Ok(())
-            }
-            Mode::JoinedSlash { first, slash } => {
-                self.in_joined_slash(first, slash, byte);
-                Ok(())
-            }
-            Mode::Block { start, stage } => {
-                self.in_block(start, stage, byte);
-                Ok(())
-            }
-            Mode::LineComment { stage } => self.in_line(stage, at, byte),
-            Mode::Faulted { kind, place } => {
-                self.fail(kind, place);
-                Ok(())
-            }
+            Mode::Between => self.begin(self.piece.line, self.piece.before, at, byte)?,
+            Mode::Word { start } => self.in_word(start, at, byte)?,
+            Mode::Number { start, last } => self.in_number(start, last, at, byte)?,
+            Mode::Punct { start, punct } => self.in_punct(start, punct, at, byte)?,
+            Mode::TwoDots { start, second } => self.in_two_dots(start, second, at, byte)?,
+            Mode::Backslash { first } => self.in_backslash(first, byte),
+            Mode::BackslashReturn { first } => self.in_backslash_return(first, byte),
+            Mode::Joined { first } => self.in_joined(first, at, byte)?,
+            Mode::JoinedBackslash { first, last } => self.in_joined_backslash(first, last, byte),
+            Mode::JoinedReturn { first, last } => self.in_joined_return(first, last, byte),
+            Mode::JoinedSlash { first, slash } => self.in_joined_slash(first, slash, byte),
+            Mode::Block { start, stage } => self.in_block(start, stage, byte),
+            Mode::LineComment { stage } => self.in_line(stage, at, byte)?,
+            Mode::Faulted { kind, place } => self.fail(kind, place),
         }
+        Ok(())
     }
 
     /// A piece of the text, whose first byte stands at a place. After an error only what was there before is known.
