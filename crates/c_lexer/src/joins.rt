@@ -16,7 +16,11 @@ fn block_stage(stage: BlockStage, byte: u8) -> BlockStage
     ensures { result ≡ block_stage stage byte }
 {
     match stage {
-        BlockStage::Inside => if byte == b'*' { BlockStage::Star } else { BlockStage::Inside },
+        BlockStage::Inside => if byte == b'*' {
+            BlockStage::Star
+        } else {
+            BlockStage::Inside
+        },
         BlockStage::Star => {
             if byte == b'*' {
                 BlockStage::Star
@@ -64,7 +68,11 @@ fn line_stage(stage: LineStage, byte: u8) -> LineStage
     ensures { result ≡ line_stage stage byte }
 {
     match stage {
-        LineStage::Inside => if byte == b'\\' { LineStage::Backslash } else { LineStage::Inside },
+        LineStage::Inside => if byte == b'\\' {
+            LineStage::Backslash
+        } else {
+            LineStage::Inside
+        },
         LineStage::Backslash => {
             if byte == b'\\' {
                 LineStage::Backslash
@@ -74,7 +82,11 @@ fn line_stage(stage: LineStage, byte: u8) -> LineStage
                 LineStage::Inside
             }
         }
-        LineStage::Return => if byte == b'\\' { LineStage::Backslash } else { LineStage::Inside },
+        LineStage::Return => if byte == b'\\' {
+            LineStage::Backslash
+        } else {
+            LineStage::Inside
+        },
     }
 }
 

@@ -48,7 +48,12 @@ pub fn after_kind(kind: &TokenKind) -> Before
 }
 
 /// Adds a token.
-pub fn push_token(tokens: &mut HeldTokens, kind: TokenKind, start: u64, end: u64) -> Result<(), AllocError>
+pub fn push_token(
+    tokens: &mut HeldTokens,
+    kind: TokenKind,
+    start: u64,
+    end: u64,
+) -> Result<(), AllocError>
     ensures before { tokens.new.0 ≡ tokens.old.0 }
     ensures ok { OnOk result (tokens.new.1 ≡ tokens.old.1 ++ token kind start end ∷ []) }
 {
@@ -107,7 +112,14 @@ impl Machine {
             }
             Class::Digit => {
                 self.text.begin(byte)?;
-                self.enter(line, before, Mode::Number { start: at, last: byte });
+                self.enter(
+                    line,
+                    before,
+                    Mode::Number {
+                        start: at,
+                        last: byte,
+                    },
+                );
             }
             Class::Hash => self.begin_directive(line, at)?,
             Class::Punct(punct) => self.enter(line, before, Mode::Punct { start: at, punct }),
@@ -204,14 +216,23 @@ impl Machine {
     }
 
     /// A punctuator grows, or ends before the byte.
-    pub fn in_punct(&mut self, start: u64, punct: Punct, at: u64, byte: u8) -> Result<(), AllocError>
+    pub fn in_punct(
+        &mut self,
+        start: u64,
+        punct: Punct,
+        at: u64,
+        byte: u8,
+    ) -> Result<(), AllocError>
         requires { at < 2 ^ 63 }
         ensures ok { OnOk result (Follows self.old self.new (in_mode self.old.piece.line self.old.piece.before (Mode.Punct start punct) self.old.text.1 at byte)) }
         ensures kept { IsKept self.old self.new }
     {
         match growth(punct, byte) {
             Growth::Grows(longer) => {
-                self.piece.mode = Mode::Punct { start, punct: longer };
+                self.piece.mode = Mode::Punct {
+                    start,
+                    punct: longer,
+                };
                 Ok(())
             }
             Growth::Dots => {
@@ -219,29 +240,60 @@ impl Machine {
                 Ok(())
             }
             Growth::OpensBlock => {
-                self.piece.mode = Mode::Block { start, stage: BlockStage::Inside };
+                self.piece.mode = Mode::Block {
+                    start,
+                    stage: BlockStage::Inside,
+                };
                 Ok(())
             }
             Growth::OpensLine => {
-                self.piece.mode = Mode::LineComment { stage: LineStage::Inside };
+                self.piece.mode = Mode::LineComment {
+                    stage: LineStage::Inside,
+                };
                 Ok(())
             }
-            Growth::Ends => self.end_token(self.piece.line, TokenKind::Punct(punct), start, at, byte),
+            Growth::Ends => self.end_token(
+                self.piece.line,
+                TokenKind::Punct(punct),
+                start,
+                at,
+                byte,
+            ),
         }
     }
 
     /// Two dots become an ellipsis, or are two tokens before the byte.
-    pub fn in_two_dots(&mut self, start: u64, second: u64, at: u64, byte: u8) -> Result<(), AllocError>
+    pub fn in_two_dots(
+        &mut self,
+        start: u64,
+        second: u64,
+        at: u64,
+        byte: u8,
+    ) -> Result<(), AllocError>
         requires { at < 2 ^ 63 }
         ensures ok { OnOk result (Follows self.old self.new (in_mode self.old.piece.line self.old.piece.before (Mode.TwoDots start second) self.old.text.1 at byte)) }
         ensures kept { IsKept self.old self.new }
     {
         if byte == b'.' {
-            self.piece.mode = Mode::Punct { start, punct: Punct::Ellipsis };
+            self.piece.mode = Mode::Punct {
+                start,
+                punct: Punct::Ellipsis,
+            };
             Ok(())
         } else {
-            push_token(&mut self.tokens, TokenKind::Punct(Punct::Dot), start, second)?;
-            self.end_token(with_token(self.piece.line), TokenKind::Punct(Punct::Dot), second, at, byte)
+            push_token(
+                &mut self.tokens,
+                TokenKind::Punct(Punct::Dot),
+                start,
+                second,
+            )?;
+            self.end_token(
+                with_token(self.piece.line),
+                TokenKind::Punct(Punct::Dot),
+                second,
+                at,
+                byte,
+            )
         }
     }
 }
