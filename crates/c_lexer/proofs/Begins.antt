@@ -1,28 +1,28 @@
 -- A byte that begins a piece: what completes the state after it completes the text from it on.
-use Rattle.std.proofs.Common.{◌≡◌, ◌≢◌, ◌⊎◌, ℕ, suc, ◌+◌, ◌-◌, Bool, true, false, ◌&&◌, List, [], ◌∷◌, ◌++◌, length, refl, sym, ap, ◌∙◌, subst, subst₂, arith, inl, inr, add-suc}
-use Rattle.std.specs.Prelude.{IsTrue, IsFalse}
+use Rattle.std.proofs.Common.{◌≡◌, ◌≢◌, ℕ, ◌+◌, ◌&&◌, List, [], ◌∷◌, ◌++◌, length, refl, sym, ap, subst, subst₂, arith, inl, inr}
+use Rattle.std.specs.Prelude.{IsTrue}
 use Rattle.std.specs.List.{list_all}
 use Rattle.std.specs.Char.{is_ascii_digit}
-use Rattle.std.proofs.lemmas.Bool.{false≢true, eq-eqb, eqb-true, and_parts, ne_eqb}
+use Rattle.std.proofs.lemmas.Bool.{false≢true, eq-eqb}
 use Rattle.c_lexer.specs.declared.class.Class.{Class}
 use Rattle.c_lexer.specs.declared.class.Class.TheVariants.{Feed, Blank, Backslash as BackslashByte, Letter, Digit, Hash as HashByte, Punct as Punctuation, Other}
 use Rattle.c_lexer.specs.declared.context.Line.{Line}
 use Rattle.c_lexer.specs.declared.context.Line.TheVariants.{Fresh, Begun, Directive}
 use Rattle.c_lexer.specs.declared.context.Before.{Before}
-use Rattle.c_lexer.specs.declared.context.Before.TheVariants.{Free, Solid}
+use Rattle.c_lexer.specs.declared.context.Before.TheVariants.{Free}
 use Rattle.c_lexer.specs.declared.token.Punct.{Punct}
 use Rattle.c_lexer.specs.declared.token.TokenKind.TheVariants.{Hash}
 use Rattle.c_lexer.specs.declared.token.LexKind.TheVariants.{BadByte}
-use Rattle.c_lexer.specs.Bytes.{is_blank, is_feed, begins_word, goes_in_word, Join, before_feed, before_return, NoJoin}
-use Rattle.c_lexer.specs.Lexemes.{spelling, is_word, IsLexeme}
-use Rattle.c_lexer.specs.Numbers.{is_number, go_on}
-use Rattle.c_lexer.specs.Cut.{Side, side, token, line_end, place, Piece, blank, feed, hash, Fault, bad_byte, BeginsNothing, Answer, fault, after, Lexes, stops, goes}
+use Rattle.c_lexer.specs.Bytes.{is_feed, begins_word, goes_in_word, before_feed, before_return, NoJoin}
+use Rattle.c_lexer.specs.Lexemes.{IsLexeme}
+use Rattle.c_lexer.specs.Numbers.{go_on}
+use Rattle.c_lexer.specs.Cut.{side, token, line_end, blank, feed, hash, bad_byte, Answer, after, Lexes, goes}
 use Rattle.c_lexer.specs.Classes.{class_of}
 use Rattle.c_lexer.specs.Machine
 use Rattle.c_lexer.specs.Machine.{State, Move, begin_class, begin}
-use Rattle.c_lexer.proofs.Seen.{Tells, tells, IsOther}
+use Rattle.c_lexer.proofs.Seen.{Tells, tells}
 use Rattle.c_lexer.proofs.Longest.{none_other, IsOpenWord, IsOpenNumber, punct_class}
-use Rattle.c_lexer.proofs.Meaning.{Completes, Next, SoundNext, place_at, fault_stops}
+use Rattle.c_lexer.proofs.Meaning.{Next, SoundNext, place_at, fault_stops}
 
 pub no_join_at : (b : ℕ) (bs : List ℕ) → b ≢ 92 → NoJoin (b ∷ bs)
 no_join_at b bs n cs (before_feed e f) = n e

@@ -1,5 +1,5 @@
 -- The end of the text: what completes each state with no byte left.
-use Rattle.std.proofs.Common.{◌≡◌, ◌≢◌, ◌⊎◌, ℕ, suc, ◌+◌, Bool, true, false, List, [], ◌∷◌, ◌++◌, length, Option, Some, None, refl, sym, ap, ◌∙◌, subst, arith, inl, inr}
+use Rattle.std.proofs.Common.{◌≡◌, ◌≢◌, ℕ, ◌+◌, List, [], ◌∷◌, ◌++◌, length, Option, Some, None, refl, ap, ◌∙◌, arith, inr}
 use Rattle.std.specs.Prelude.{IsTrue, IsFalse}
 use Rattle.std.proofs.lemmas.Bool.{and_left}
 use Rattle.c_lexer.specs.declared.mode.Mode.{Mode}
@@ -15,15 +15,15 @@ use Rattle.c_lexer.specs.declared.token.TokenKind.{TokenKind}
 use Rattle.c_lexer.specs.declared.token.TokenKind.TheVariants.{Word, Punct as Punctuator}
 use Rattle.c_lexer.specs.declared.token.Punct.TheVariants.{Dot}
 use Rattle.c_lexer.specs.declared.token.LexKind.TheVariants.{BadByte, BadNumber, SplitToken}
-use Rattle.c_lexer.specs.Bytes.{Join, before_feed, before_return, NoJoin}
-use Rattle.c_lexer.specs.Comments.{InBlock, star, other, AfterStar, slash, join, goes_on, InLine, text_ends, any, begins_comment}
+use Rattle.c_lexer.specs.Bytes.{before_feed, NoJoin}
+use Rattle.c_lexer.specs.Comments.{InBlock, star, other, AfterStar, slash, join, goes_on, text_ends, any, begins_comment}
 use Rattle.c_lexer.specs.Numbers.{is_number, integer}
-use Rattle.c_lexer.specs.Lexemes.{spelling, is_word, IsLongest, Spells}
-use Rattle.c_lexer.specs.Cut.{Side, side, token, with_token, after_kind, line_end, Fault, bad_number, Answer, fault, after, Lexes, ends}
+use Rattle.c_lexer.specs.Lexemes.{spelling, IsLongest, Spells}
+use Rattle.c_lexer.specs.Cut.{side, token, with_token, after_kind, bad_number, fault, after, Lexes, ends}
 use Rattle.c_lexer.specs.Machine.{closing, closes_token, closes_number, closes_backslash, end_in_mode}
 use Rattle.c_lexer.proofs.Shapes.{shape}
-use Rattle.c_lexer.proofs.Longest.{append_none, IsOpenWord, IsOpenNumber, whole_word, whole_number, word_longest, number_longest, punct_longest, dot_longest, punct_no_comment}
-use Rattle.c_lexer.proofs.Meaning.{Run, Commented, Blocked, InStage, InLineStage, Completes, Sound, token_goes, fault_stops, run_over, run_fails}
+use Rattle.c_lexer.proofs.Longest.{append_none, whole_word, whole_number, word_longest, number_longest, punct_longest, dot_longest, punct_no_comment}
+use Rattle.c_lexer.proofs.Meaning.{Run, InStage, InLineStage, Completes, Sound, token_goes, fault_stops, run_over, run_fails}
 use Rattle.c_lexer.proofs.Begins.{no_join_at}
 use Rattle.c_lexer.proofs.Steps.{word_no_comment, number_no_comment, number_spells, bad_backslash_at}
 
@@ -53,7 +53,7 @@ dots_end : (total : ℕ) (line : Line) (before : Before) (start second : ℕ) �
     Lexes total (side line before) (46 ∷ 46 ∷ []) (after (token (Punctuator Dot) start second ∷ []) (closes_token (with_token line) (Punctuator Dot) second total))
 dots_end total line before start second e =
     token_goes total line before (Punctuator Dot) start second (46 ∷ []) (46 ∷ 46 ∷ []) (46 ∷ []) (closes_token (with_token line) (Punctuator Dot) second total)
-        (omega arith) e.1 refl (dot_longest [] tt) refl (token_ends total (with_token line) Solid (Punctuator Dot) second (46 ∷ []) e.1 refl (punct_longest Dot [] tt) refl)
+    (omega arith) e.1 refl (dot_longest [] tt) refl (token_ends total (with_token line) Solid (Punctuator Dot) second (46 ∷ []) e.1 refl (punct_longest Dot [] tt) refl)
 
 run_ends : (total : ℕ) (line : Line) (before : Before) (first last : ℕ) (bs : List ℕ) → last + length (92 ∷ bs) ≡ total → NoJoin (92 ∷ bs) → IsFalse (begins_comment (92 ∷ bs)) →
     Run total (side line before) first (92 ∷ bs) (closes_backslash before first last)

@@ -1,45 +1,20 @@
 -- Moves one after another.
-use Rattle.std.proofs.Common.{◌≡◌, ℕ, ◌+◌, ◌<◌, List, [], ◌∷◌, ◌++◌, length, drop, get_or, refl, sym, ap, ◌∙◌, subst, append_assoc, add-one, arith}
+use Rattle.std.proofs.Common.{◌≡◌, ℕ, ◌+◌, ◌<◌, List, ◌∷◌, ◌++◌, length, drop, get_or, sym, ap, ◌∙◌, append_assoc, add-one, arith}
 use Rattle.std.proofs.Math.Seq.{drop-cons}
 use Rattle.std.specs.Prelude.{Result, Ok, Err, OnOk}
 use Rattle.c_lexer.specs.declared.machine.Machine.{Machine}
 use Rattle.c_lexer.specs.declared.token.Token.{Token}
-use Rattle.c_lexer.specs.declared.context.Line.{Line}
-use Rattle.c_lexer.specs.declared.context.Before.{Before}
-use Rattle.c_lexer.specs.declared.mode.Mode.{Mode}
-use Rattle.c_lexer.specs.declared.mode.Mode.TheVariants.{Between, Word as InWord, Number as InNumber, Punct as InPunct, TwoDots, Backslash, BackslashReturn, Joined, JoinedBackslash, JoinedReturn, JoinedSlash, Block, LineComment, Faulted}
-use Rattle.c_lexer.specs.Machine.{State, Move, to, gives, in_mode, step}
-use Rattle.c_lexer.specs.Running.{Follows, IsKept, text_in, state_of, run}
+use Rattle.c_lexer.specs.Machine.{Move, gives, step}
+use Rattle.c_lexer.specs.Running.{Follows, IsKept, state_of, run}
 
 -- a move after tokens
 pub gives_follows : {A E : Type 0} (r : Result A E) (old mid new : Machine) (ts : List Token) (n m : Move) → mid.tokens.1 ≡ old.tokens.1 ++ ts → n ≡ m →
     OnOk r (Follows mid new n) → OnOk r (Follows old new (gives ts m))
 gives_follows (Ok x) old mid new ts n m e f h = record {
-    whole = h.whole ∙ ap (λ z. z ++ n.whole) e ∙ append_assoc old.tokens.1 ts n.whole ∙ ap (λ z. old.tokens.1 ++ (ts ++ z.whole)) f;
-    next = h.next ∙ ap (λ z. z.next) f }
+  whole = h.whole ∙ ap (λ z. z ++ n.whole) e ∙ append_assoc old.tokens.1 ts n.whole ∙ ap (λ z. old.tokens.1 ++ (ts ++ z.whole)) f;
+  next = h.next ∙ ap (λ z. z.next) f;
+}
 gives_follows (Err x) old mid new ts n m e f h = tt
-
--- the text of a piece without any doesn't matter
-text_free : (line : Line) (before : Before) (mode : Mode) (text : List ℕ) (at b : ℕ) → in_mode line before mode text at b ≡ in_mode line before mode (text_in mode text) at b
-text_free line before Between text at b = refl
-text_free line before (InWord start) text at b = refl
-text_free line before (InNumber start last) text at b = refl
-text_free line before (InPunct start p) text at b = refl
-text_free line before (TwoDots start second) text at b = refl
-text_free line before (Backslash first) text at b = refl
-text_free line before (BackslashReturn first) text at b = refl
-text_free line before (Joined first) text at b = refl
-text_free line before (JoinedBackslash first last) text at b = refl
-text_free line before (JoinedReturn first last) text at b = refl
-text_free line before (JoinedSlash first slash) text at b = refl
-text_free line before (Block start stage) text at b = refl
-text_free line before (LineComment stage) text at b = refl
-text_free line before (Faulted kind place) text at b = refl
-
--- what a mode's own function does is a step
-pub step_follows : (old new : Machine) (mode : Mode) (at b : ℕ) → old.piece.mode ≡ mode → Follows old new (in_mode old.piece.line old.piece.before mode old.text.1 at b) → Follows old new (step (state_of old) at b)
-step_follows old new mode at b e h =
-    subst (Follows old new) (ap (λ m. in_mode old.piece.line old.piece.before m old.text.1 at b) (sym e) ∙ text_free old.piece.line old.piece.before old.piece.mode old.text.1 at b) h
 
 pub gives_gives : (ts us : List Token) (m : Move) → gives ts (gives us m) ≡ gives (ts ++ us) m
 gives_gives ts us m = ap (λ z. record { whole = z; next = m.next }) (sym (append_assoc ts us m.whole))

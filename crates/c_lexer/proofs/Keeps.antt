@@ -1,6 +1,6 @@
 -- Each step keeps what is known of a state.
-use Rattle.std.proofs.Common.{◌≡◌, ◌≢◌, ◌⊎◌, ℕ, suc, ◌+◌, Bool, true, false, cond, ◌&&◌, ◌||◌, List, [], ◌∷◌, ◌++◌, length, Option, Some, None, refl, sym, ap, ◌∙◌, subst, arith, append_assoc, length-append}
-use Rattle.std.specs.Prelude.{IsTrue, IsFalse, ◌==◌}
+use Rattle.std.proofs.Common.{◌≡◌, ℕ, ◌+◌, ◌&&◌, ◌||◌, List, [], ◌∷◌, ◌++◌, length, Option, Some, None, refl, ap, ◌∙◌, subst, arith, append_assoc, length-append}
+use Rattle.std.specs.Prelude.{IsTrue}
 use Rattle.std.specs.List.{list_all}
 use Rattle.std.proofs.lemmas.Bool.{cond_both}
 use Rattle.c_lexer.specs.declared.mode.Growth.{Growth}
@@ -19,7 +19,7 @@ use Rattle.c_lexer.specs.Numbers.{goes_on, go_on, is_number, integer}
 use Rattle.c_lexer.specs.Lexemes.{spelling, is_word}
 use Rattle.c_lexer.specs.Cut.{with_token, after_kind}
 use Rattle.c_lexer.specs.Classes.{growth}
-use Rattle.c_lexer.specs.Machine.{Move, begin, ends_token, ends_number, grows, leaves_run, bad_backslash, ends_block, ends_line, in_mode}
+use Rattle.c_lexer.specs.Machine.{ends_token, ends_number, grows, leaves_run, bad_backslash, ends_block, ends_line, in_mode}
 use Rattle.c_lexer.proofs.Longest.{IsOpenWord, IsOpenNumber}
 use Rattle.c_lexer.proofs.Meaning.{Sound, SoundNext}
 use Rattle.c_lexer.proofs.Begins.{begin_sound}

@@ -1,9 +1,9 @@
 -- The machine's answer is that of the definition, for each text.
-use Rattle.std.proofs.Common.{◌≡◌, ℕ, suc, ◌+◌, List, [], ◌∷◌, length, refl, sym, subst, arith}
-use Rattle.c_lexer.specs.Cut.{side, Answer, after, Lexes}
+use Rattle.std.proofs.Common.{◌≡◌, ℕ, ◌+◌, List, [], ◌∷◌, length, sym, subst, arith}
+use Rattle.c_lexer.specs.Cut.{side, Answer, Lexes}
 use Rattle.c_lexer.specs.declared.context.Line.TheVariants.{Fresh}
 use Rattle.c_lexer.specs.declared.context.Before.TheVariants.{Free}
-use Rattle.c_lexer.specs.Machine.{State, Move, step, end, answer, start}
+use Rattle.c_lexer.specs.Machine.{State, step, end, answer, start}
 use Rattle.c_lexer.proofs.Meaning.{Completes, Sound}
 use Rattle.c_lexer.proofs.Steps.{step_from}
 use Rattle.c_lexer.proofs.Keeps.{step_sound}

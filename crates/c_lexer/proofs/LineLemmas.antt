@@ -1,8 +1,7 @@
 -- The line feeds of a text: where they are, that their places rise, and what they tell of a place.
-use Rattle.std.proofs.Common.{◌≡◌, ◌≢◌, ◌⊎◌, ℕ, zero, suc, ◌+◌, ◌-◌, ◌<◌, ◌≤◌, Bool, true, false, cond, ◌&&◌, not, List, [], ◌∷◌, ◌++◌, length, take, get_or, refl, sym, ap, ◌∙◌, subst, arith, inl, inr}
-use Rattle.std.specs.Prelude.{IsTrue, nat_le, nat_lt, count_by}
-use Rattle.std.specs.List.{AllWithin, suffix_len}
-use Rattle.std.proofs.lemmas.Bool.{cond_both, and_parts, and_from, leb-true, le-leb, ltb-true, ltb-false, lt-ltb, le-ltb, eqb-true, eqb-false, eq-eqb, ne_eqb, cases_lt, cases_eq, both_ways, cond-true, cond-false, not_from_true, not_from_false, false_from_ne_true}
+use Rattle.std.proofs.Common.{◌≡◌, ◌⊎◌, ℕ, zero, suc, ◌+◌, ◌-◌, ◌<◌, ◌≤◌, Bool, true, false, cond, not, List, [], ◌∷◌, ◌++◌, length, take, get_or, refl, sym, ap, ◌∙◌, subst, arith, inl, inr}
+use Rattle.std.specs.Prelude.{IsTrue, nat_le, count_by}
+use Rattle.std.proofs.lemmas.Bool.{cond_both, and_parts, and_from, leb-true, le-leb, eqb-true, eq-eqb, cases_lt, cond-true, not_from_true, not_from_false, false_from_ne_true}
 use Rattle.std.proofs.lemmas.List.Sums.{suffix_len_is, sum_by-cons}
 use Rattle.std.proofs.lemmas.List.{get_or-take, length-append, length-take-le}
 use Rattle.c_tree.specs.Place.{is_line_feed, line_at, column_at}
@@ -39,7 +38,7 @@ places_rise at (b ∷ bs) =
     let top : (at + 1) + length bs ≡ at + suc (length bs) = omega arith in
     let rest = subst (λ n. IsTrue (rises (at + 1) (feed_places (at + 1) bs) n)) top (places_rise (at + 1) bs) in
     cond_both (is_line_feed b) _ _ (λ ps. IsTrue (rises at ps (at + suc (length bs)))) (λ e. and_from _ _ (le-leb at at (omega arith)) rest)
-        (λ e. rises_lower at (at + 1) _ (feed_places (at + 1) bs) (omega arith) rest)
+    (λ e. rises_lower at (at + 1) _ (feed_places (at + 1) bs) (omega arith) rest)
 
 append_either : (t : Bool) (at : ℕ) (us vs ws : List ℕ) → us ≡ vs ++ ws → cond t (at ∷ us) us ≡ cond t (at ∷ vs) vs ++ ws
 append_either true at us vs ws e = ap (λ z. at ∷ z) e
@@ -50,7 +49,7 @@ places_append at [] ys = ap (λ n. feed_places n ys) (omega arith)
 places_append at (x ∷ xs) ys =
     let top : (at + 1) + length xs ≡ at + suc (length xs) = omega arith in
     append_either (is_line_feed x) at _ (feed_places (at + 1) xs) (feed_places (at + suc (length xs)) ys)
-        (places_append (at + 1) xs ys ∙ ap (λ n. feed_places (at + 1) xs ++ feed_places n ys) top)
+    (places_append (at + 1) xs ys ∙ ap (λ n. feed_places (at + 1) xs ++ feed_places n ys) top)
 
 -- each of the places is that of a line feed
 abbrev AtFeeds : ℕ → List ℕ → List ℕ → Type 0
@@ -77,7 +76,7 @@ feed_placed at (b ∷ bs) zero l e =
 feed_placed at (b ∷ bs) (suc i) l e =
     let r = feed_placed (at + 1) bs i (omega arith) e in
     cond_both (is_line_feed b) (at ∷ feed_places (at + 1) bs) (feed_places (at + 1) bs) (λ ps. (m : ℕ) × (m < length ps) × (get_or ps m 0 ≡ at + suc i))
-        (λ f. (suc r.0, omega (arith, r.1), omega (arith, r.2))) (λ f. (r.0, r.1, omega (arith, r.2)))
+    (λ f. (suc r.0, omega (arith, r.1), omega (arith, r.2))) (λ f. (r.0, r.1, omega (arith, r.2)))
 
 count_here : (at n c : ℕ) (ps : List ℕ) (k : ℕ) → ((j : ℕ) → Splits ps ((at + 1) + n) j → c ≡ j) → Splits (at ∷ ps) (at + suc n) k → 1 + c ≡ k
 count_here at n c ps zero h s = let g = s.2 0 (omega arith) (omega arith) in absurd (omega arith)
@@ -105,7 +104,6 @@ feeds_before at (b ∷ bs) (suc n) k l s = sum_by-cons (λ x. cond (is_line_feed
 
 module _ (bytes : List ℕ) (place k : ℕ) (within : place ≤ length bytes) (few : k ≤ length (feed_places 0 bytes))
     (below : (i : ℕ) → i < k → get_or (feed_places 0 bytes) i 0 < place) (above : (i : ℕ) → k ≤ i → i < length (feed_places 0 bytes) → place ≤ get_or (feed_places 0 bytes) i 0) where
-
   pub line_is : k + 1 ≡ line_at bytes place
   line_is = let r = feeds_before 0 bytes place k within (few, (λ i h. let g = below i h in omega arith), (λ i h g. let f = above i h g in omega arith)) in omega (arith, r)
 
@@ -120,8 +118,8 @@ module _ (bytes : List ℕ) (place k : ℕ) (within : place ≤ length bytes) (f
   none_between : (least : ℕ) → ((m : ℕ) → m < k → get_or (feed_places 0 bytes) m 0 < least) → (i : ℕ) → least ≤ i → i < place → not (is_line_feed (get_or (take place bytes) i 0)) ≡ true
   none_between least low i l h =
       not_from_false _ (false_from_ne_true _ (λ e.
-          let r = feed_placed 0 bytes i (omega arith) (sym (get_or-take place bytes i 0 h) ∙ eqb-true _ 10 e) in
-          feed_apart least low i r.0 l h r.1 r.2 (cases_lt r.0 k)))
+      let r = feed_placed 0 bytes i (omega arith) (sym (get_or-take place bytes i 0 h) ∙ eqb-true _ 10 e) in
+      feed_apart least low i r.0 l h r.1 r.2 (cases_lt r.0 k)))
 
   pub column_is_first : k ≡ 0 → place + 1 ≡ column_at bytes place
   column_is_first e =
@@ -135,13 +133,12 @@ module _ (bytes : List ℕ) (place k : ℕ) (within : place ≤ length bytes) (f
       let at_feed : feed ≡ f.0 = omega (arith, e, f.2) in
       let is_feed : get_or (take place bytes) feed 0 ≡ 10 = get_or-take place bytes feed 0 (omega arith) ∙ ap (λ z. get_or bytes z 0) at_feed ∙ f.3 in
       let r = suffix_len_is (λ byte. not (is_line_feed byte)) (take place bytes) (feed + 1) 0 (omega (arith, cut_length))
-          (λ i l h. none_between (feed + 1) (λ m g. let s = rises_sorted 0 (0 + length bytes) (feed_places 0 bytes) (places_rise 0 bytes) m (k - 1) (omega arith) (omega arith) in omega arith) i l (omega (arith, cut_length)))
-          (λ h. let back : (feed + 1) - 1 ≡ feed = omega arith in not_from_true _ (eq-eqb _ 10 (ap (λ z. get_or (take place bytes) z 0) back ∙ is_feed))) in
+      (λ i l h. none_between (feed + 1) (λ m g. let s = rises_sorted 0 (0 + length bytes) (feed_places 0 bytes) (places_rise 0 bytes) m (k - 1) (omega arith) (omega arith) in omega arith) i l (omega (arith, cut_length)))
+      (λ h. let back : (feed + 1) - 1 ≡ feed = omega arith in not_from_true _ (eq-eqb _ 10 (ap (λ z. get_or (take place bytes) z 0) back ∙ is_feed))) in
       omega (arith, r, cut_length)
 
 -- a map that stands for bytes
 module _ (l : Lines) (bytes feeds : List ℕ) (count place k : ℕ) (stands : MapsLines l bytes) (same_feeds : feeds ≡ l.feeds) (same_count : l.count ≡ count) (within : place ≤ count) (split : Splits feeds place k) where
-
   split_bytes : Splits (feed_places 0 bytes) place k
   split_bytes = subst (λ z. Splits z place k) (same_feeds ∙ stands.feeds) split
 
@@ -164,8 +161,9 @@ own_default xs i x h e = e ∙ get_or_default_zero xs i x h
 -- a map after one more piece
 pub maps_fed : (old new : Lines) (bytes piece : List ℕ) → new.count ≡ old.count + length piece → new.feeds ≡ old.feeds ++ feed_places old.count piece → MapsLines old bytes → MapsLines new (bytes ++ piece)
 maps_fed old new bytes piece c f h = record {
-    count = omega (arith, c, h.count, length-append bytes piece);
-    feeds = f ∙ ap (λ z. z ++ feed_places old.count piece) h.feeds ∙ ap (λ n. feed_places 0 bytes ++ feed_places n piece) place ∙ sym (places_append 0 bytes piece) }
+  count = omega (arith, c, h.count, length-append bytes piece);
+  feeds = f ∙ ap (λ z. z ++ feed_places old.count piece) h.feeds ∙ ap (λ n. feed_places 0 bytes ++ feed_places n piece) place ∙ sym (places_append 0 bytes piece);
+}
   where
     place : old.count ≡ 0 + length bytes
     place = omega (arith, h.count)

@@ -1,22 +1,22 @@
 -- Which words, numbers and punctuators are the longest where they end.
-use Rattle.std.proofs.Common.{◌≡◌, ◌≢◌, ◌⊎◌, ℕ, suc, ◌+◌, ◌<◌, ◌≤◌, Bool, true, false, ◌&&◌, ◌||◌, List, [], ◌∷◌, ◌++◌, length, refl, sym, ap, ◌∙◌, subst, arith, inl, inr, append_assoc, length-append}
-use Rattle.std.proofs.lemmas.Bool.{and_parts, both_ways, ne_eqb, eqb-true, eqb-false, cases_lt, cases_eq, false_from_ne_true, and_left, and_right, or_from}
-use Rattle.std.specs.Prelude.{IsTrue, IsFalse, ◌==◌}
+use Rattle.std.proofs.Common.{◌≡◌, ◌≢◌, ◌⊎◌, ℕ, ◌<◌, ◌≤◌, false, List, [], ◌∷◌, ◌++◌, length, refl, sym, ap, ◌∙◌, subst, arith, inl, inr}
+use Rattle.std.proofs.lemmas.Bool.{and_parts, both_ways, ne_eqb, cases_lt, cases_eq, and_left, and_right, or_from}
+use Rattle.std.specs.Prelude.{IsTrue, IsFalse}
 use Rattle.std.specs.List.{list_all}
 use Rattle.std.specs.Char.{is_ascii_digit}
 use Rattle.c_lexer.specs.declared.class.Class.{Class}
 use Rattle.c_lexer.specs.declared.class.Class.TheVariants.{Letter, Digit, Other, Punct as Punctuation}
 use Rattle.c_lexer.specs.declared.mode.Growth.{Growth}
-use Rattle.c_lexer.specs.declared.mode.Growth.TheVariants.{Grows, Dots, OpensBlock, OpensLine, Ends}
+use Rattle.c_lexer.specs.declared.mode.Growth.TheVariants.{Grows, OpensBlock, OpensLine, Ends}
 use Rattle.c_lexer.specs.declared.token.Punct.{Punct}
-use Rattle.c_lexer.specs.declared.token.Punct.TheVariants.{Dot, Slash, Ellipsis}
+use Rattle.c_lexer.specs.declared.token.Punct.TheVariants.{Dot, Slash}
 use Rattle.c_lexer.specs.Bytes.{begins_word, goes_in_word}
 use Rattle.c_lexer.specs.Comments.{begins_comment}
 use Rattle.c_lexer.specs.Numbers.{go_on, goes_on, is_number}
 use Rattle.c_lexer.specs.Lexemes.{is_word, spelling, IsLexeme, IsLongest}
 use Rattle.c_lexer.specs.Classes.{class_of, growth}
-use Rattle.c_lexer.proofs.Seen.{class_letter, class_digit, letter_apart, digit_bounds, digit_no_letter}
-use Rattle.c_lexer.proofs.Shapes.{Made, one, two, three, ellipsis, Shape, shape, no_longer, dotted}
+use Rattle.c_lexer.proofs.Seen.{class_letter, class_digit, digit_no_letter}
+use Rattle.c_lexer.proofs.Shapes.{one, two, three, ellipsis, Shape, shape, no_longer, dotted}
 
 -- lists of which each begins with one of two
 pub longer : (xs ys vs ds : List ℕ) → xs ++ ys ≡ vs ++ ds → length xs < length vs → (b : ℕ) × (w : List ℕ) × (us : List ℕ) × (vs ≡ xs ++ b ∷ w) × (ys ≡ b ∷ us)
@@ -120,6 +120,7 @@ word_longest w cs opened ends = record { parts = refl; lexeme = inl (whole_word 
     as_word : (u : List ℕ) (v : List ℕ) → IsTrue (is_word u) → (b : ℕ) (x : List ℕ) → v ≡ u ++ b ∷ x → IsLexeme v → IsTrue (is_word v)
     as_word [] v i b x e h = absurd (both_ways _ refl i)
     as_word (c ∷ u) v i b x e h = subst (λ y. IsTrue (is_word y)) (sym e) (word_only c (u ++ b ∷ x) (and_parts _ _ i).0 (subst IsLexeme e h))
+
     bound : (v ds : List ℕ) → w ++ cs ≡ v ++ ds → IsLexeme v → (length w < length v) ⊎ (length v ≤ length w) → length v ≤ length w
     bound v ds e h (inr k) = k
     bound v ds e h (inl k) =
@@ -134,6 +135,7 @@ number_longest last w cs opened ends = record { parts = refl; lexeme = inr (inl 
     as_number : (u : List ℕ) (v : List ℕ) → IsTrue (is_number u) → (b : ℕ) (x : List ℕ) → v ≡ u ++ b ∷ x → IsLexeme v → IsTrue (is_number v)
     as_number [] v i b x e h = absurd (both_ways _ refl i)
     as_number (c ∷ u) v i b x e h = subst (λ y. IsTrue (is_number y)) (sym e) (number_only c (u ++ b ∷ x) (and_parts _ _ i).0 (subst IsLexeme e h))
+
     bound : (v ds : List ℕ) → w ++ cs ≡ v ++ ds → IsLexeme v → (length w < length v) ⊎ (length v ≤ length w) → length v ≤ length w
     bound v ds e h (inr k) = k
     bound v ds e h (inl k) =
@@ -192,6 +194,7 @@ dot_longest cs ends = record { parts = refl; lexeme = inr (inr (Dot, refl)); lon
         let parts : 46 ∷ 46 ∷ cs ≡ 46 ∷ 46 ∷ 46 ∷ ds = e ∙ ap (λ z. z ++ ds) (f ∙ ap (λ z. 46 ∷ 46 ∷ z) g) in
         let k : cs ≡ 46 ∷ ds = cc in
         ends_dots_at 46 cs ds k ends refl
+
     bound : (v ds : List ℕ) → 46 ∷ 46 ∷ cs ≡ v ++ ds → IsLexeme v → (1 < length v) ⊎ (length v ≤ 1) → length v ≤ 1
     bound v ds e h (inr k) = k
     bound v ds e h (inl k) =
@@ -227,18 +230,21 @@ punct_no_comment p s (b ∷ bs) (one {x = x} c) h = two_no_comment x b bs p c (�
   where
     no_end : (g : Growth) → g ≡ Ends → g ≡ OpensBlock → ⊥
     no_end g e f = cc
+
     no_line : (g : Growth) → g ≡ Ends → g ≡ OpensLine → ⊥
     no_line g e f = cc
 punct_no_comment p s cs (two {q = q} {x = x} {y = y} c g) h = two_no_comment x y cs q c (λ k. no_end _ g k) (λ k. no_line _ g k)
   where
     no_end : (g : Growth) → g ≡ Grows p → g ≡ OpensBlock → ⊥
     no_end g e f = cc
+
     no_line : (g : Growth) → g ≡ Grows p → g ≡ OpensLine → ⊥
     no_line g e f = cc
 punct_no_comment p s cs (three {q = q} {r = r} {x = x} {y = y} {z = z} c g i) h = two_no_comment x y (z ∷ cs) q c (λ k. no_end _ g k) (λ k. no_line _ g k)
   where
     no_end : (g : Growth) → g ≡ Grows r → g ≡ OpensBlock → ⊥
     no_end g e f = cc
+
     no_line : (g : Growth) → g ≡ Grows r → g ≡ OpensLine → ⊥
     no_line g e f = cc
 punct_no_comment p s cs ellipsis h = refl

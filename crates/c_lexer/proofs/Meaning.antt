@@ -1,5 +1,5 @@
 -- What a state of the machine stands for: how the bytes that follow complete it to an answer.
-use Rattle.std.proofs.Common.{◌≡◌, ◌≢◌, ◌⊎◌, ℕ, suc, ◌+◌, ◌-◌, Bool, true, false, List, [], ◌∷◌, ◌++◌, length, refl, sym, ap, ◌∙◌, subst, subst₂, arith, inl, inr, add-suc}
+use Rattle.std.proofs.Common.{◌≡◌, ◌⊎◌, ℕ, ◌+◌, List, [], ◌∷◌, ◌++◌, length, sym, ap, ◌∙◌, subst, subst₂, arith, inl, inr}
 use Rattle.std.specs.Prelude.{IsTrue, IsFalse}
 use Rattle.c_lexer.specs.declared.mode.Mode.{Mode}
 use Rattle.c_lexer.specs.declared.mode.Mode.TheVariants.{Between, Word as InWord, Number as InNumber, Punct as InPunct, TwoDots, Backslash, BackslashReturn, Joined, JoinedBackslash, JoinedReturn, JoinedSlash, Block, LineComment, Faulted}
@@ -16,8 +16,8 @@ use Rattle.c_lexer.specs.declared.token.LexKind.TheVariants.{OpenComment, SplitT
 use Rattle.c_lexer.specs.Bytes.{Join, NoJoin, Joins, last as last_join, more as more_joins}
 use Rattle.c_lexer.specs.Comments.{begins_comment, InBlock, AfterStar, InLine}
 use Rattle.c_lexer.specs.Lexemes.{IsLongest, Spells, spelling}
-use Rattle.c_lexer.specs.Cut.{Side, side, token, with_token, after_kind, place, allowed, Piece, joins, lexeme, Fault, split_token, Answer, fault, after, Lexes, stops, goes}
-use Rattle.c_lexer.specs.Machine.{State, Move}
+use Rattle.c_lexer.specs.Cut.{Side, side, token, with_token, after_kind, place, allowed, joins, lexeme, Fault, split_token, Answer, fault, after, Lexes, stops, goes}
+use Rattle.c_lexer.specs.Machine.{Move}
 use Rattle.c_lexer.proofs.Longest.{IsOpenWord, IsOpenNumber}
 
 -- the joins that are left of a run

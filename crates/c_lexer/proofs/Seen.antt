@@ -1,5 +1,5 @@
 -- What the class of a byte tells of it.
-use Rattle.std.proofs.Common.{◌≡◌, ◌≢◌, ◌⊎◌, ℕ, Bool, true, false, List, [], ◌∷◌, ◌<◌, ◌≤◌, ◌||◌, cond, refl, sym, ap, ◌∙◌, arith, inl, inr}
+use Rattle.std.proofs.Common.{◌≡◌, ◌≢◌, ◌⊎◌, ℕ, true, false, List, [], ◌∷◌, ◌<◌, ◌≤◌, ◌||◌, cond, sym, ap, ◌∙◌, arith, inl, inr}
 use Rattle.std.proofs.lemmas.Bool.{cond_both, eqb-true, eqb-false, ne_eqb, or_cases, or_from, and_parts, leb-true, false_from_ne_true, cond-true, cond-false}
 use Rattle.std.specs.Prelude.{IsTrue, IsFalse, ◌==◌}
 use Rattle.std.specs.Char.{is_ascii_digit}
@@ -67,6 +67,7 @@ letter_bounds b e = by (or_cases _ _ e)
     small : ((is_in_range 65 90 b ≡ true) ⊎ (is_in_range 97 122 b ≡ true)) → (b ≡ 95) ⊎ ((65 ≤ b) × (b ≤ 90)) ⊎ ((97 ≤ b) × (b ≤ 122))
     small (inl h) = inr (inl (range_bounds 65 90 b h))
     small (inr h) = inr (inr (range_bounds 97 122 b h))
+
     by : ((is_in_range 65 90 b || is_in_range 97 122 b) ≡ true) ⊎ ((b == 95) ≡ true) → (b ≡ 95) ⊎ ((65 ≤ b) × (b ≤ 90)) ⊎ ((97 ≤ b) × (b ≤ 122))
     by (inl h) = small (or_cases _ _ h)
     by (inr h) = inl (eqb-true b 95 h)

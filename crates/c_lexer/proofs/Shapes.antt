@@ -1,9 +1,9 @@
 -- How each punctuator grows byte by byte, and what stands first in a longer one.
-use Rattle.std.proofs.Common.{◌≡◌, ◌≢◌, ℕ, List, [], ◌∷◌, ◌++◌, refl}
+use Rattle.std.proofs.Common.{◌≡◌, ℕ, List, [], ◌∷◌, ◌++◌, refl}
 use Rattle.c_lexer.specs.declared.class.Class.{Class}
 use Rattle.c_lexer.specs.declared.class.Class.TheVariants.{Punct as Punctuation}
 use Rattle.c_lexer.specs.declared.mode.Growth.{Growth}
-use Rattle.c_lexer.specs.declared.mode.Growth.TheVariants.{Grows, Dots, OpensBlock, OpensLine, Ends}
+use Rattle.c_lexer.specs.declared.mode.Growth.TheVariants.{Grows, Dots, Ends}
 use Rattle.c_lexer.specs.declared.token.Punct.{Punct}
 use Rattle.c_lexer.specs.declared.token.Punct.TheVariants.{SquareOpen, SquareClose, RoundOpen, RoundClose, CurlyOpen, CurlyClose, Dot, Arrow, PlusPlus, MinusMinus, And, Star, Plus, Minus, Tilde, Bang, Slash, Percent, ShiftLeft, ShiftRight, Less, Greater, LessEq, GreaterEq, EqEq, BangEq, Caret, Bar, AndAnd, BarBar, Question, Colon, Semicolon, Ellipsis, Assign, StarAssign, SlashAssign, PercentAssign, PlusAssign, MinusAssign, ShiftLeftAssign, ShiftRightAssign, AndAssign, CaretAssign, BarAssign, Comma}
 use Rattle.c_lexer.specs.Lexemes.{spelling}
@@ -68,7 +68,6 @@ shape BarAssign = two refl refl
 shape Comma = one refl
 
 module _ (class : ℕ → Class) (grow : Punct → ℕ → Growth) (dot : class 46 ≡ Punctuation Dot) (dots : grow Dot 46 ≡ Dots) where
-
   -- no punctuator begins with one that ends before the byte, and the byte
   pub no_longer : (p q : Punct) (s t : List ℕ) (b : ℕ) (w : List ℕ) → Made class grow p s → Made class grow q t → t ≡ s ++ b ∷ w → grow p b ≡ Ends → ⊥
   no_longer p q s t b w (one c) (one d) e g = absurd cc

@@ -1,19 +1,15 @@
 -- What stands first at a place tells which sort of piece or fault begins there.
-use Rattle.std.proofs.Common.{◌≡◌, ◌≢◌, ◌⊎◌, ℕ, Bool, true, false, ◌&&◌, List, [], ◌∷◌, ◌++◌, length, Option, Some, None, refl, sym, ap, ◌∙◌, subst, arith, inl, inr}
+use Rattle.std.proofs.Common.{◌≡◌, ◌⊎◌, ℕ, Bool, true, false, List, [], ◌∷◌, ◌++◌, refl, sym, ap, ◌∙◌, subst, inl, inr}
 use Rattle.std.specs.Prelude.{IsTrue, IsFalse}
-use Rattle.std.specs.Char.{is_ascii_digit}
 use Rattle.std.proofs.lemmas.Bool.{and_parts, both_ways, true≢false, cond-true, cond-false, ne_eqb}
 use Rattle.c_lexer.specs.declared.class.Class.{Class}
 use Rattle.c_lexer.specs.declared.class.Class.TheVariants.{Feed, Blank, Backslash, Letter, Digit, Hash, Punct as Punctuation, Other}
 use Rattle.c_lexer.specs.declared.token.Token.{Token}
-use Rattle.c_lexer.specs.declared.token.TokenKind.{TokenKind}
-use Rattle.c_lexer.specs.declared.token.TokenKind.TheVariants.{Word, Number, Punct as Punctuator, Hash as HashToken, LineEnd, End}
 use Rattle.c_lexer.specs.declared.token.Punct.{Punct}
-use Rattle.c_lexer.specs.Bytes.{is_blank, is_feed, begins_word, Join, before_feed, before_return, Joins, last, more}
+use Rattle.c_lexer.specs.Bytes.{is_blank, is_feed, Join, before_feed, before_return, Joins, last, more}
 use Rattle.c_lexer.specs.Comments.{begins_comment, Comment, block, line}
-use Rattle.c_lexer.specs.Numbers.{is_number}
-use Rattle.c_lexer.specs.Lexemes.{is_word, spelling, IsLexeme, IsLongest, Spells}
-use Rattle.c_lexer.specs.Cut.{Side, Piece, blank, feed, joins, comment, hash, lexeme, Fault, open_comment, bad_number, split_token}
+use Rattle.c_lexer.specs.Lexemes.{spelling, IsLexeme}
+use Rattle.c_lexer.specs.Cut.{Side, Piece, blank, feed, joins, comment, hash, lexeme}
 use Rattle.c_lexer.specs.Classes.{class_of}
 use Rattle.c_lexer.proofs.Seen.{class_letter, class_digit}
 use Rattle.c_lexer.proofs.Shapes.{shape}

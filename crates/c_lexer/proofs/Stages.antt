@@ -1,12 +1,12 @@
 -- Comments, a byte at a time: what is left of one before a byte is what is left of it after the byte.
-use Rattle.std.proofs.Common.{◌≡◌, ◌≢◌, ◌⊎◌, ℕ, Bool, true, false, cond, List, [], ◌∷◌, refl, sym, subst, arith, inl, inr}
-use Rattle.std.specs.Prelude.{IsTrue, IsFalse, ◌==◌}
+use Rattle.std.proofs.Common.{◌≡◌, ◌≢◌, ◌⊎◌, ℕ, cond, List, ◌∷◌, refl, sym, subst, arith, inl, inr}
+use Rattle.std.specs.Prelude.{IsFalse, ◌==◌}
 use Rattle.std.proofs.lemmas.Bool.{cond_both, eqb-true, eqb-false, cases_eq}
 use Rattle.c_lexer.specs.declared.mode.BlockStage.{BlockStage}
 use Rattle.c_lexer.specs.declared.mode.BlockStage.TheVariants.{Inside as InsideBlock, Star as AtStar, StarBackslash, StarReturn}
 use Rattle.c_lexer.specs.declared.mode.LineStage.{LineStage}
 use Rattle.c_lexer.specs.declared.mode.LineStage.TheVariants.{Inside as InsideLine, Backslash as LineBackslash, Return as LineReturn}
-use Rattle.c_lexer.specs.Bytes.{is_feed, Join, before_feed, before_return, NoJoin}
+use Rattle.c_lexer.specs.Bytes.{before_feed, before_return, NoJoin}
 use Rattle.c_lexer.specs.Comments.{InBlock, star, other, AfterStar, slash, join, goes_on, InLine, joined, any}
 use Rattle.c_lexer.specs.Machine.{block_stage, line_stage, ends_block, ends_line}
 use Rattle.c_lexer.proofs.Meaning.{InStage, InLineStage}
@@ -61,13 +61,13 @@ block_from StarBackslash b bs cs f =
     tested (λ s. InStage s bs cs → AfterStar (92 ∷ b ∷ bs) cs) b 10 AtStar _ (λ e h. join (before_feed refl e) h) (λ n.
     tested (λ s. InStage s bs cs → AfterStar (92 ∷ b ∷ bs) cs) b 13 StarReturn _ (λ e h. subst (λ z. AfterStar (92 ∷ z ∷ bs) cs) (sym e) h) (λ m.
     tested (λ s. InStage s bs cs → AfterStar (92 ∷ b ∷ bs) cs) b 42 AtStar InsideBlock
-        (λ e h. goes_on (λ k. omega arith) (no_join_backslash b bs n m) (other (λ k. omega arith) (star e h)))
-        (λ k h. goes_on (λ l. omega arith) (no_join_backslash b bs n m) (other (λ l. omega arith) (other k h)))))
+    (λ e h. goes_on (λ k. omega arith) (no_join_backslash b bs n m) (other (λ k. omega arith) (star e h)))
+    (λ k h. goes_on (λ l. omega arith) (no_join_backslash b bs n m) (other (λ l. omega arith) (other k h)))))
 block_from StarReturn b bs cs f =
     tested (λ s. InStage s bs cs → AfterStar (92 ∷ 13 ∷ b ∷ bs) cs) b 10 AtStar _ (λ e h. join (before_return refl refl e) h) (λ n.
     tested (λ s. InStage s bs cs → AfterStar (92 ∷ 13 ∷ b ∷ bs) cs) b 42 AtStar InsideBlock
-        (λ e h. goes_on (λ k. omega arith) (no_join_return b bs n) (other (λ k. omega arith) (other (λ k. omega arith) (star e h))))
-        (λ k h. goes_on (λ l. omega arith) (no_join_return b bs n) (other (λ l. omega arith) (other (λ l. omega arith) (other k h)))))
+    (λ e h. goes_on (λ k. omega arith) (no_join_return b bs n) (other (λ k. omega arith) (other (λ k. omega arith) (star e h))))
+    (λ k h. goes_on (λ l. omega arith) (no_join_return b bs n) (other (λ l. omega arith) (other (λ l. omega arith) (other k h)))))
 
 -- and back
 pub block_to : (stage : BlockStage) (b : ℕ) (bs cs : List ℕ) → IsFalse (ends_block stage b) → InStage stage (b ∷ bs) cs → InStage (block_stage stage b) bs cs
@@ -80,13 +80,13 @@ block_to StarBackslash b bs cs f h =
     tested (λ s. InStage s bs cs) b 10 AtStar _ (λ e. in_joined refl e h) (λ n.
     tested (λ s. InStage s bs cs) b 13 StarReturn _ (λ e. subst (λ z. AfterStar (92 ∷ z ∷ bs) cs) e h) (λ m.
     tested (λ s. InStage s bs cs) b 42 AtStar InsideBlock
-        (λ e. in_star e (in_other (λ k. omega arith) (in_after (λ k. omega arith) (no_join_backslash b bs n m) h)))
-        (λ k. in_other k (in_other (λ l. omega arith) (in_after (λ l. omega arith) (no_join_backslash b bs n m) h)))))
+    (λ e. in_star e (in_other (λ k. omega arith) (in_after (λ k. omega arith) (no_join_backslash b bs n m) h)))
+    (λ k. in_other k (in_other (λ l. omega arith) (in_after (λ l. omega arith) (no_join_backslash b bs n m) h)))))
 block_to StarReturn b bs cs f h =
     tested (λ s. InStage s bs cs) b 10 AtStar _ (λ e. in_returned refl refl e h) (λ n.
     tested (λ s. InStage s bs cs) b 42 AtStar InsideBlock
-        (λ e. in_star e (in_other (λ k. omega arith) (in_other (λ k. omega arith) (in_after (λ k. omega arith) (no_join_return b bs n) h))))
-        (λ k. in_other k (in_other (λ l. omega arith) (in_other (λ l. omega arith) (in_after (λ l. omega arith) (no_join_return b bs n) h)))))
+    (λ e. in_star e (in_other (λ k. omega arith) (in_other (λ k. omega arith) (in_after (λ k. omega arith) (no_join_return b bs n) h))))
+    (λ k. in_other k (in_other (λ l. omega arith) (in_other (λ l. omega arith) (in_after (λ l. omega arith) (no_join_return b bs n) h)))))
 
 pub line_from : (stage : LineStage) (b : ℕ) (bs cs : List ℕ) → IsFalse (ends_line stage b) → InLineStage (line_stage stage b) bs cs → InLineStage stage (b ∷ bs) cs
 line_from InsideLine b bs cs f =
@@ -94,17 +94,17 @@ line_from InsideLine b bs cs f =
     tested (λ s. InLineStage s bs cs → InLine (b ∷ bs) cs) b 92 LineBackslash InsideLine (λ e h. subst (λ z. InLine (z ∷ bs) cs) (sym e) h) (λ m h. any n (no_join_at b bs m) h)
 line_from LineBackslash b bs cs f =
     tested (λ s. InLineStage s bs cs → InLine (92 ∷ b ∷ bs) cs) b 92 LineBackslash _
-        (λ e h. any (λ k. omega arith) (no_join_backslash b bs (λ k. omega arith) (λ k. omega arith)) (subst (λ z. InLine (z ∷ bs) cs) (sym e) h)) (λ m.
+    (λ e h. any (λ k. omega arith) (no_join_backslash b bs (λ k. omega arith) (λ k. omega arith)) (subst (λ z. InLine (z ∷ bs) cs) (sym e) h)) (λ m.
     tested (λ s. InLineStage s bs cs → InLine (92 ∷ b ∷ bs) cs) b 13 LineReturn InsideLine
-        (λ e h. subst (λ z. InLine (92 ∷ z ∷ bs) cs) (sym e) h) (λ n h. inside m n h (cases_eq b 10)))
+    (λ e h. subst (λ z. InLine (92 ∷ z ∷ bs) cs) (sym e) h) (λ n h. inside m n h (cases_eq b 10)))
   where
     inside : b ≢ 92 → b ≢ 13 → InLine bs cs → ((b ≡ 10) ⊎ (b ≡ 10 → ⊥)) → InLine (92 ∷ b ∷ bs) cs
     inside m n h (inl e) = joined (before_feed refl e) h
     inside m n h (inr k) = any (λ l. omega arith) (no_join_backslash b bs k n) (any k (no_join_at b bs m) h)
 line_from LineReturn b bs cs f =
     tested (λ s. InLineStage s bs cs → InLine (92 ∷ 13 ∷ b ∷ bs) cs) b 92 LineBackslash InsideLine
-        (λ e h. any (λ k. omega arith) (no_join_return b bs (λ k. omega arith)) (any (λ k. omega arith) (no_join_at 13 (b ∷ bs) (λ k. omega arith)) (subst (λ z. InLine (z ∷ bs) cs) (sym e) h)))
-        (λ m h. inside m h (cases_eq b 10))
+    (λ e h. any (λ k. omega arith) (no_join_return b bs (λ k. omega arith)) (any (λ k. omega arith) (no_join_at 13 (b ∷ bs) (λ k. omega arith)) (subst (λ z. InLine (z ∷ bs) cs) (sym e) h)))
+    (λ m h. inside m h (cases_eq b 10))
   where
     inside : b ≢ 92 → InLine bs cs → ((b ≡ 10) ⊎ (b ≡ 10 → ⊥)) → InLine (92 ∷ 13 ∷ b ∷ bs) cs
     inside m h (inl e) = joined (before_return refl refl e) h

@@ -1,6 +1,6 @@
 -- Runs one after another, and what they answer.
-use Rattle.std.proofs.Common.{◌≡◌, ◌⊎◌, ℕ, suc, ◌+◌, List, [], ◌∷◌, ◌++◌, length, refl, sym, ap, ◌∙◌, subst, append_assoc, arith, length-append, inl, inr}
-use Rattle.std.specs.Prelude.{Result, Ok, Err, IfOk, IfErr, OnOk}
+use Rattle.std.proofs.Common.{◌≡◌, ◌⊎◌, ℕ, suc, ◌+◌, List, [], ◌∷◌, ◌++◌, length, refl, sym, ap, ◌∙◌, subst, arith, length-append, inl, inr}
+use Rattle.std.specs.Prelude.{Result, Ok, Err, IfOk, IfErr}
 use Rattle.c_lexer.specs.declared.token.Token.{Token}
 use Rattle.c_lexer.specs.declared.token.LexKind.{LexKind}
 use Rattle.c_lexer.specs.declared.token.LexFault.{LexFault}
@@ -8,7 +8,7 @@ use Rattle.c_lexer.specs.declared.token.LexFault.TheVariants.{At, Memory}
 use Rattle.c_lexer.specs.declared.context.Line.TheVariants.{Fresh}
 use Rattle.c_lexer.specs.declared.context.Before.TheVariants.{Free}
 use Rattle.c_lexer.specs.Cut.{side, Answer, tokens, fault, after, with_first, Lexes, Cut, FirstFault, IsFault}
-use Rattle.c_lexer.specs.Machine.{State, Move, gives, step, end, answer, start}
+use Rattle.c_lexer.specs.Machine.{State, gives, step, end, answer, start}
 use Rattle.c_lexer.specs.Running.{run}
 use Rattle.c_lexer.specs.Lexing.{Lexing, StandsFor, fed, FaultIs}
 use Rattle.c_lexer.proofs.Lexed.{lexed}
@@ -27,8 +27,9 @@ run_append s at (x ∷ xs) ys =
 
 pub stands_fed : (l : Lexing) (bytes piece : List ℕ) → StandsFor l bytes → StandsFor (fed l piece) (bytes ++ piece)
 stands_fed l bytes piece h = record {
-    count = omega (arith, length-append bytes piece, h.count);
-    ran = run_append start 0 bytes piece ∙ ap (λ m. gives m.whole (run m.next (0 + length bytes) piece)) h.ran ∙ ap (λ n. gives l.tokens (run l.state n piece)) place }
+  count = omega (arith, length-append bytes piece, h.count);
+  ran = run_append start 0 bytes piece ∙ ap (λ m. gives m.whole (run m.next (0 + length bytes) piece)) h.ran ∙ ap (λ n. gives l.tokens (run l.state n piece)) place;
+}
   where
     place : 0 + length bytes ≡ l.count
     place = omega (arith, h.count)
@@ -59,7 +60,6 @@ answer_is : (bytes : List ℕ) (a : Answer) → a ≡ answer start 0 bytes → L
 answer_is bytes a e = subst (Lexes (length bytes) (side Fresh Free) bytes) (sym e) (lexed bytes)
 
 module _ (l : Lexing) (bytes : List ℕ) (kept since : List Token) (stands : StandsFor l bytes) (none : since ≡ []) (same : kept ≡ l.tokens) where
-
   answered : after (kept ++ since) (end l.state l.count) ≡ answer start 0 bytes
   answered = ap (λ z. after (kept ++ z) (end l.state l.count)) none ∙ ap (λ z. after z (end l.state l.count)) (append_end kept ∙ same) ∙ finished l bytes stands
 

@@ -1,8 +1,7 @@
 -- One step of the machine: what completes the state after a byte completes, with the byte before it, the state before it.
-use Rattle.std.proofs.Common.{◌≡◌, ◌≢◌, ◌⊎◌, ℕ, suc, ◌+◌, ◌-◌, Bool, true, false, cond, ◌&&◌, ◌||◌, List, [], ◌∷◌, ◌++◌, length, Option, Some, None, refl, sym, ap, ◌∙◌, subst, subst₂, arith, inl, inr, append_assoc, length-append}
+use Rattle.std.proofs.Common.{◌≡◌, ◌≢◌, ◌⊎◌, ℕ, ◌+◌, Bool, true, false, cond, ◌&&◌, ◌||◌, List, [], ◌∷◌, ◌++◌, length, Option, Some, None, refl, sym, ap, ◌∙◌, subst, subst₂, arith, inl, inr, append_assoc, length-append}
 use Rattle.std.specs.Prelude.{IsTrue, IsFalse, ◌==◌}
-use Rattle.std.specs.List.{list_all}
-use Rattle.std.proofs.lemmas.Bool.{cond_both, cond-true, cond-false, eqb-true, eqb-false, eq-eqb, ne_eqb, cases_eq, or_left, or_right, or_from, or_parts, or_cases, and_parts, and_from, and_left, and_right, not_from_true, not_from_false, both_ways}
+use Rattle.std.proofs.lemmas.Bool.{cond_both, cond-false, eqb-true, eq-eqb, ne_eqb, cases_eq, or_left, or_right, or_from, and_parts, and_from, and_left, and_right, not_from_true, not_from_false, both_ways}
 use Rattle.c_lexer.specs.declared.mode.Growth.{Growth}
 use Rattle.c_lexer.specs.declared.mode.Growth.TheVariants.{Grows, Dots, OpensBlock, OpensLine, Ends}
 use Rattle.c_lexer.specs.declared.mode.Mode.{Mode}
@@ -19,21 +18,20 @@ use Rattle.c_lexer.specs.declared.class.Class.TheVariants.{Backslash as Backslas
 use Rattle.c_lexer.specs.declared.token.TokenKind.{TokenKind}
 use Rattle.c_lexer.specs.declared.token.TokenKind.TheVariants.{Word, Number, Punct as Punctuator}
 use Rattle.c_lexer.specs.declared.token.Punct.{Punct}
-use Rattle.c_lexer.specs.declared.token.Punct.TheVariants.{Dot, And, Star, Plus, Minus, Bang, Slash, Percent, ShiftLeft, ShiftRight, Less, Greater, Caret, Bar, Assign, Ellipsis, AndAnd, PlusPlus, MinusMinus, Arrow, BarBar}
-use Rattle.c_lexer.specs.declared.token.LexKind.TheVariants.{BadByte, OpenComment, BadNumber, SplitToken}
-use Rattle.c_lexer.specs.Bytes.{is_blank, is_feed, begins_word, goes_in_word, Join, before_feed, before_return, NoJoin}
+use Rattle.c_lexer.specs.declared.token.Punct.TheVariants.{Dot, And, Star, Plus, Minus, Bang, Slash, Percent, ShiftLeft, ShiftRight, Less, Greater, Caret, Bar, Assign}
+use Rattle.c_lexer.specs.declared.token.LexKind.TheVariants.{BadByte, OpenComment, BadNumber}
+use Rattle.c_lexer.specs.Bytes.{is_blank, is_feed, goes_in_word, before_feed, before_return, NoJoin}
 use Rattle.c_lexer.specs.Comments.{begins_comment, InBlock, slash, InLine, line_ends, block, line}
-use Rattle.c_lexer.specs.Numbers.{goes_on, go_on, is_number, integer, are_digits, is_in_range, is_suffixed, without_suffix, radix_of, digits_of, type_of, is_plain_zero}
+use Rattle.c_lexer.specs.Numbers.{goes_on, is_number, integer, are_digits, is_in_range, is_suffixed, without_suffix, radix_of, digits_of}
 use Rattle.c_lexer.specs.Lexemes.{spelling, is_word, IsLexeme, IsLongest, Spells}
-use Rattle.c_lexer.specs.Cut.{Side, side, token, with_token, after_kind, place, clears, allowed, Piece, comment, Fault, bad_byte, open_comment, bad_number, BeginsNothing, Answer, fault, after, Lexes, goes}
+use Rattle.c_lexer.specs.Cut.{Side, side, with_token, after_kind, allowed, comment, Fault, bad_byte, open_comment, bad_number, Answer, after, Lexes, goes}
 use Rattle.c_lexer.specs.Classes.{class_of, growth, with_equals}
-use Rattle.c_lexer.specs.Machine
-use Rattle.c_lexer.specs.Machine.{State, Move, begin, ends_token, ends_number, grows, two_dots, leaves_run, bad_backslash, ends_block, block_stage, ends_line, line_stage, in_mode}
+use Rattle.c_lexer.specs.Machine.{begin, ends_token, ends_number, grows, two_dots, leaves_run, bad_backslash, ends_block, block_stage, ends_line, in_mode}
 use Rattle.c_lexer.proofs.Seen.{letter_apart, digit_bounds}
 use Rattle.c_lexer.proofs.Shapes.{shape}
 use Rattle.c_lexer.proofs.Longest.{punct_class, IsOpenWord, IsOpenNumber, whole_word, whole_number, word_longest, number_longest, punct_longest, dot_longest, apart_no_comment, punct_no_comment}
-use Rattle.c_lexer.proofs.Meaning.{Run, Commented, Blocked, InStage, InLineStage, Completes, Next, Sound, SoundNext, place_at, token_goes, fault_stops, run_goes, run_over, run_fails, run_again}
-use Rattle.c_lexer.proofs.Begins.{no_join_at, begin_from, begin_sound}
+use Rattle.c_lexer.proofs.Meaning.{Run, Commented, Blocked, InStage, InLineStage, Completes, Next, Sound, token_goes, fault_stops, run_goes, run_over, run_fails, run_again}
+use Rattle.c_lexer.proofs.Begins.{no_join_at, begin_from}
 use Rattle.c_lexer.proofs.Stages.{tested, no_join_backslash, no_join_return, block_from, block_to, line_from}
 
 -- what a byte makes of the punctuator before it, in bytes
@@ -95,21 +93,20 @@ slash_solid : AfterSlash ≡ Solid → ⊥
 slash_solid e = cc
 
 module _ (total : ℕ) where
-
   -- a token ends before a byte
   pub ends_from : (line_ : Line) (before : Before) (kind : TokenKind) (start at b : ℕ) (w bs : List ℕ) (a : Answer) →
       start + length w ≡ at → at + length (b ∷ bs) ≡ total → IsFalse (begins_comment (w ++ b ∷ bs)) → IsLongest w (w ++ b ∷ bs) (b ∷ bs) → Spells kind w →
       Next total (ends_token line_ kind start at b) bs a → Lexes total (side line_ before) (w ++ b ∷ bs) (after (ends_token line_ kind start at b).whole a)
   ends_from line_ before kind start at b w bs a e f n l k h =
       token_goes total line_ before kind start at w (w ++ b ∷ bs) (b ∷ bs) (after (begin (with_token line_) (after_kind kind) at b).whole a)
-          (omega (arith, length-append w (b ∷ bs))) f n l k (begin_from total (with_token line_) (after_kind kind) at b bs a f h)
+      (omega (arith, length-append w (b ∷ bs))) f n l k (begin_from total (with_token line_) (after_kind kind) at b bs a f h)
 
   word_from : (line_ : Line) (before : Before) (start : ℕ) (text : List ℕ) (at b : ℕ) (bs : List ℕ) (a : Answer) → (start + length text ≡ at) × IsOpenWord text → at + length (b ∷ bs) ≡ total →
       Next total (in_mode line_ before (InWord start) text at b) bs a → Lexes total (side line_ before) (text ++ b ∷ bs) (after (in_mode line_ before (InWord start) text at b).whole a)
   word_from line_ before start text at b bs a s e =
       cond_both (goes_in_word b) _ _ (λ m. Next total m bs a → Lexes total (side line_ before) (text ++ b ∷ bs) (after m.whole a))
-          (λ g h. subst (λ z. Lexes total (side line_ before) z a) (append_assoc text (b ∷ []) bs) h)
-          (λ g h. let w = whole_word text s.1 in ends_from line_ before (Word text) start at b text bs a s.0 e (word_no_comment text (b ∷ bs) w) (word_longest text (b ∷ bs) s.1 g) (w, refl) h)
+      (λ g h. subst (λ z. Lexes total (side line_ before) z a) (append_assoc text (b ∷ []) bs) h)
+      (λ g h. let w = whole_word text s.1 in ends_from line_ before (Word text) start at b text bs a s.0 e (word_no_comment text (b ∷ bs) w) (word_longest text (b ∷ bs) s.1 g) (w, refl) h)
 
   constant_from : (line_ : Line) (before : Before) (start : ℕ) (text : List ℕ) (at b : ℕ) (bs : List ℕ) (a : Answer) → start + length text ≡ at → at + length (b ∷ bs) ≡ total →
       IsTrue (is_number text) → IsLongest text (text ++ b ∷ bs) (b ∷ bs) → (o : Option TokenKind) → integer text ≡ o →
@@ -121,8 +118,8 @@ module _ (total : ℕ) where
       Next total (in_mode line_ before (InNumber start last) text at b) bs a → Lexes total (side line_ before) (text ++ b ∷ bs) (after (in_mode line_ before (InNumber start last) text at b).whole a)
   number_from line_ before start last text at b bs a s e =
       cond_both (goes_on last b) _ _ (λ m. Next total m bs a → Lexes total (side line_ before) (text ++ b ∷ bs) (after m.whole a))
-          (λ g h. subst (λ z. Lexes total (side line_ before) z a) (append_assoc text (b ∷ []) bs) h)
-          (λ g h. constant_from line_ before start text at b bs a s.0 e (whole_number last text s.1) (number_longest last text (b ∷ bs) s.1 g) (integer text) refl h)
+      (λ g h. subst (λ z. Lexes total (side line_ before) z a) (append_assoc text (b ∷ []) bs) h)
+      (λ g h. constant_from line_ before start text at b bs a s.0 e (whole_number last text s.1) (number_longest last text (b ∷ bs) s.1 g) (integer text) refl h)
 
   -- a comment begins
   pub block_begins : (line_ : Line) (before : Before) (start : ℕ) (bs : List ℕ) (a : Answer) → start + length (47 ∷ 42 ∷ bs) ≡ total → Blocked total (side line_ Free) InBlock start bs a → Lexes total (side line_ before) (47 ∷ 42 ∷ bs) a
@@ -149,8 +146,8 @@ module _ (total : ℕ) where
       Next total (two_dots line_ start second at b) bs a → Lexes total (side line_ before) (46 ∷ 46 ∷ b ∷ bs) (after (two_dots line_ start second at b).whole a)
   dots_from line_ before start second at b bs a s e n h =
       token_goes total line_ before (Punctuator Dot) start second (46 ∷ []) (46 ∷ 46 ∷ b ∷ bs) (46 ∷ b ∷ bs)
-          (after (ends_token (with_token line_) (Punctuator Dot) second at b).whole a) (omega arith) (omega arith) refl (dot_longest (b ∷ bs) n) refl
-          (ends_from (with_token line_) Solid (Punctuator Dot) second at b (spelling Dot) bs a s.1 e (punct_no_comment Dot (spelling Dot) (b ∷ bs) (shape Dot) (ends n)) (punct_longest Dot (b ∷ bs) (ends n)) refl h)
+      (after (ends_token (with_token line_) (Punctuator Dot) second at b).whole a) (omega arith) (omega arith) refl (dot_longest (b ∷ bs) n) refl
+      (ends_from (with_token line_) Solid (Punctuator Dot) second at b (spelling Dot) bs a s.1 e (punct_no_comment Dot (spelling Dot) (b ∷ bs) (shape Dot) (ends n)) (punct_longest Dot (b ∷ bs) (ends n)) refl h)
     where
       ends : b ≢ 46 → growth Dot b ≡ Ends
       ends n = cond-false _ _ _ (ne_eqb b 46 n)
@@ -159,8 +156,8 @@ module _ (total : ℕ) where
       Next total (in_mode line_ before (TwoDots start second) text at b) bs a → Lexes total (side line_ before) (46 ∷ 46 ∷ b ∷ bs) (after (in_mode line_ before (TwoDots start second) text at b).whole a)
   two_dots_from line_ before start second text at b bs a s e =
       tested (λ m. Next total m bs a → Lexes total (side line_ before) (46 ∷ 46 ∷ b ∷ bs) (after m.whole a)) b 46 _ _
-          (λ g h. subst (λ z. Lexes total (side line_ before) (46 ∷ 46 ∷ z ∷ bs) a) (sym g) h)
-          (λ n h. dots_from line_ before start second at b bs a s e n h)
+      (λ g h. subst (λ z. Lexes total (side line_ before) (46 ∷ 46 ∷ z ∷ bs) a) (sym g) h)
+      (λ n h. dots_from line_ before start second at b bs a s e n h)
 
   -- a backslash that begins no join
   pub bad_backslash_at : (s : Side) (bs : List ℕ) → NoJoin (92 ∷ bs) → Fault s (92 ∷ bs) BadByte
@@ -168,6 +165,7 @@ module _ (total : ℕ) where
     where
       no_punct : (k : Class) (q : Punct) → k ≡ BackslashByte → k ≡ Punctuation q → ⊥
       no_punct k q e f = cc
+
       none : (w : List ℕ) → IsLexeme (92 ∷ w) → ⊥
       none w (inl h) = both_ways _ refl h
       none w (inr (inl h)) = both_ways _ refl h
@@ -177,17 +175,17 @@ module _ (total : ℕ) where
       Next total (in_mode line_ before (Backslash first) text at b) bs a → Lexes total (side line_ before) (92 ∷ b ∷ bs) (after (in_mode line_ before (Backslash first) text at b).whole a)
   backslash_from line_ before first text at b bs a s e =
       tested (λ m. Next total m bs a → Lexes total (side line_ before) (92 ∷ b ∷ bs) (after m.whole a)) b 10 _ _
-          (λ g h. run_goes total (side line_ before) first (92 ∷ b ∷ bs) bs a (omega arith) (before_feed refl g) h)
-          (λ n. tested (λ m. Next total m bs a → Lexes total (side line_ before) (92 ∷ b ∷ bs) (after m.whole a)) b 13 _ _
-              (λ g h. subst (λ z. Lexes total (side line_ before) (92 ∷ z ∷ bs) a) (sym g) h)
-              (λ k h. fault_stops total (side line_ before) BadByte first (92 ∷ b ∷ bs) a (omega arith) (bad_backslash_at (side line_ before) (b ∷ bs) (no_join_backslash b bs n k)) h))
+      (λ g h. run_goes total (side line_ before) first (92 ∷ b ∷ bs) bs a (omega arith) (before_feed refl g) h)
+      (λ n. tested (λ m. Next total m bs a → Lexes total (side line_ before) (92 ∷ b ∷ bs) (after m.whole a)) b 13 _ _
+      (λ g h. subst (λ z. Lexes total (side line_ before) (92 ∷ z ∷ bs) a) (sym g) h)
+      (λ k h. fault_stops total (side line_ before) BadByte first (92 ∷ b ∷ bs) a (omega arith) (bad_backslash_at (side line_ before) (b ∷ bs) (no_join_backslash b bs n k)) h))
 
   backslash_return_from : (line_ : Line) (before : Before) (first : ℕ) (text : List ℕ) (at b : ℕ) (bs : List ℕ) (a : Answer) → first + 2 ≡ at → at + length (b ∷ bs) ≡ total →
       Next total (in_mode line_ before (BackslashReturn first) text at b) bs a → Lexes total (side line_ before) (92 ∷ 13 ∷ b ∷ bs) (after (in_mode line_ before (BackslashReturn first) text at b).whole a)
   backslash_return_from line_ before first text at b bs a s e =
       tested (λ m. Next total m bs a → Lexes total (side line_ before) (92 ∷ 13 ∷ b ∷ bs) (after m.whole a)) b 10 _ _
-          (λ g h. run_goes total (side line_ before) first (92 ∷ 13 ∷ b ∷ bs) bs a (omega arith) (before_return refl refl g) h)
-          (λ n h. fault_stops total (side line_ before) BadByte first (92 ∷ 13 ∷ b ∷ bs) a (omega arith) (bad_backslash_at (side line_ before) (13 ∷ b ∷ bs) (no_join_return b bs n)) h)
+      (λ g h. run_goes total (side line_ before) first (92 ∷ 13 ∷ b ∷ bs) bs a (omega arith) (before_return refl refl g) h)
+      (λ n h. fault_stops total (side line_ before) BadByte first (92 ∷ 13 ∷ b ∷ bs) a (omega arith) (bad_backslash_at (side line_ before) (13 ∷ b ∷ bs) (no_join_return b bs n)) h)
 
   -- after a run of joins
   begins_after : (line_ : Line) (before : Before) (first at b : ℕ) (bs : List ℕ) (a : Answer) → at + length (b ∷ bs) ≡ total → b ≢ 92 → IsTrue (allowed before (b ∷ bs)) →
@@ -213,21 +211,21 @@ module _ (total : ℕ) where
   leaves_from line_ Free first at b bs a e n = λ h. begins_after line_ Free first at b bs a e n refl h
   leaves_from line_ Solid first at b bs a e n =
       cond_both (is_blank b || is_feed b) _ _ (λ m. Next total m bs a → Run total (side line_ Solid) first (b ∷ bs) (after m.whole a))
-          (λ g h. begins_after line_ Solid first at b bs a e n (or_left _ _ g) h)
-          (λ g. tested (λ m. Next total m bs a → Run total (side line_ Solid) first (b ∷ bs) (after m.whole a)) b 47 _ _
-              (λ i h. subst (λ z. Run total (side line_ Solid) first (z ∷ bs) a) (sym i) h)
-              (λ k h. run_fails total (side line_ Solid) first (b ∷ bs) a (no_join_at b bs n) (or_from _ _ g (apart_no_comment b bs k)) h))
+      (λ g h. begins_after line_ Solid first at b bs a e n (or_left _ _ g) h)
+      (λ g. tested (λ m. Next total m bs a → Run total (side line_ Solid) first (b ∷ bs) (after m.whole a)) b 47 _ _
+      (λ i h. subst (λ z. Run total (side line_ Solid) first (z ∷ bs) a) (sym i) h)
+      (λ k h. run_fails total (side line_ Solid) first (b ∷ bs) a (no_join_at b bs n) (or_from _ _ g (apart_no_comment b bs k)) h))
   leaves_from line_ AfterSlash first at b bs a e n =
       cond_both (is_blank b || is_feed b) _ _ (λ m. Next total m bs a → Run total (side line_ AfterSlash) first (b ∷ bs) (after m.whole a))
-          (λ g h. begins_after line_ AfterSlash first at b bs a e n (slash_allowed b bs g) h)
-          (λ g h. run_fails total (side line_ AfterSlash) first (b ∷ bs) a (no_join_at b bs n) (slash_split b bs g) h)
+      (λ g h. begins_after line_ AfterSlash first at b bs a e n (slash_allowed b bs g) h)
+      (λ g h. run_fails total (side line_ AfterSlash) first (b ∷ bs) a (no_join_at b bs n) (slash_split b bs g) h)
 
   joined_from : (line_ : Line) (before : Before) (first : ℕ) (text : List ℕ) (at b : ℕ) (bs : List ℕ) (a : Answer) → at + length (b ∷ bs) ≡ total →
       Next total (in_mode line_ before (Joined first) text at b) bs a → Run total (side line_ before) first (b ∷ bs) (after (in_mode line_ before (Joined first) text at b).whole a)
   joined_from line_ before first text at b bs a e =
       tested (λ m. Next total m bs a → Run total (side line_ before) first (b ∷ bs) (after m.whole a)) b 92 _ _
-          (λ g h. subst (λ z. Run total (side line_ before) first (z ∷ bs) a) (sym g) h)
-          (λ n h. leaves_from line_ before first at b bs a e n h)
+      (λ g h. subst (λ z. Run total (side line_ before) first (z ∷ bs) a) (sym g) h)
+      (λ n h. leaves_from line_ before first at b bs a e n h)
 
   -- a run ends before a backslash that begins no join
   run_stops : (line_ : Line) (before : Before) (first last : ℕ) (bs : List ℕ) (a : Answer) → last + length (92 ∷ bs) ≡ total → NoJoin (92 ∷ bs) →
@@ -246,28 +244,28 @@ module _ (total : ℕ) where
       Next total (in_mode line_ before (JoinedBackslash first last) text at b) bs a → Run total (side line_ before) first (92 ∷ b ∷ bs) (after (in_mode line_ before (JoinedBackslash first last) text at b).whole a)
   joined_backslash_from line_ before first last text at b bs a s e =
       tested (λ m. Next total m bs a → Run total (side line_ before) first (92 ∷ b ∷ bs) (after m.whole a)) b 10 _ _
-          (λ g h. run_again total (side line_ before) first (92 ∷ b ∷ bs) bs a (before_feed refl g) h)
-          (λ n. tested (λ m. Next total m bs a → Run total (side line_ before) first (92 ∷ b ∷ bs) (after m.whole a)) b 13 _ _
-              (λ g h. subst (λ z. Run total (side line_ before) first (92 ∷ z ∷ bs) a) (sym g) h)
-              (λ k h. run_stops_at line_ before first last bs (b ∷ bs) a (omega arith) (no_join_backslash b bs n k) h))
+      (λ g h. run_again total (side line_ before) first (92 ∷ b ∷ bs) bs a (before_feed refl g) h)
+      (λ n. tested (λ m. Next total m bs a → Run total (side line_ before) first (92 ∷ b ∷ bs) (after m.whole a)) b 13 _ _
+      (λ g h. subst (λ z. Run total (side line_ before) first (92 ∷ z ∷ bs) a) (sym g) h)
+      (λ k h. run_stops_at line_ before first last bs (b ∷ bs) a (omega arith) (no_join_backslash b bs n k) h))
 
   joined_return_from : (line_ : Line) (before : Before) (first last : ℕ) (text : List ℕ) (at b : ℕ) (bs : List ℕ) (a : Answer) → last + 2 ≡ at → at + length (b ∷ bs) ≡ total →
       Next total (in_mode line_ before (JoinedReturn first last) text at b) bs a → Run total (side line_ before) first (92 ∷ 13 ∷ b ∷ bs) (after (in_mode line_ before (JoinedReturn first last) text at b).whole a)
   joined_return_from line_ before first last text at b bs a s e =
       tested (λ m. Next total m bs a → Run total (side line_ before) first (92 ∷ 13 ∷ b ∷ bs) (after m.whole a)) b 10 _ _
-          (λ g h. run_again total (side line_ before) first (92 ∷ 13 ∷ b ∷ bs) bs a (before_return refl refl g) h)
-          (λ n h. run_stops_at line_ before first last bs (13 ∷ b ∷ bs) a (omega arith) (no_join_return b bs n) h)
+      (λ g h. run_again total (side line_ before) first (92 ∷ 13 ∷ b ∷ bs) bs a (before_return refl refl g) h)
+      (λ n h. run_stops_at line_ before first last bs (13 ∷ b ∷ bs) a (omega arith) (no_join_return b bs n) h)
 
   joined_slash_from : (line_ : Line) (first slash_ : ℕ) (text : List ℕ) (at b : ℕ) (bs : List ℕ) (a : Answer) → slash_ + 1 ≡ at → at + length (b ∷ bs) ≡ total →
       Next total (in_mode line_ Solid (JoinedSlash first slash_) text at b) bs a → Run total (side line_ Solid) first (47 ∷ b ∷ bs) (after (in_mode line_ Solid (JoinedSlash first slash_) text at b).whole a)
   joined_slash_from line_ first slash_ text at b bs a s e =
       tested (λ m. Next total m bs a → Run total (side line_ Solid) first (47 ∷ b ∷ bs) (after m.whole a)) b 42 _ _
-          (λ g h. run_over total (side line_ Solid) first (47 ∷ b ∷ bs) a (no_join_at 47 (b ∷ bs) (λ k. omega arith)) (or_left (b == 42) (b == 47) (eq-eqb b 42 g))
-              (subst (λ z. Lexes total (side line_ Solid) (47 ∷ z ∷ bs) a) (sym g) (block_begins line_ Solid slash_ bs a (omega arith) h)))
-          (λ n. tested (λ m. Next total m bs a → Run total (side line_ Solid) first (47 ∷ b ∷ bs) (after m.whole a)) b 47 _ _
-              (λ g h. run_over total (side line_ Solid) first (47 ∷ b ∷ bs) a (no_join_at 47 (b ∷ bs) (λ k. omega arith)) (or_right (b == 42) (b == 47) (eq-eqb b 47 g))
-                  (subst (λ z. Lexes total (side line_ Solid) (47 ∷ z ∷ bs) a) (sym g) (line_begins line_ Solid bs a h)))
-              (λ k h. run_fails total (side line_ Solid) first (47 ∷ b ∷ bs) a (no_join_at 47 (b ∷ bs) (λ l. omega arith)) (or_from (b == 42) (b == 47) (ne_eqb b 42 n) (ne_eqb b 47 k)) h))
+      (λ g h. run_over total (side line_ Solid) first (47 ∷ b ∷ bs) a (no_join_at 47 (b ∷ bs) (λ k. omega arith)) (or_left (b == 42) (b == 47) (eq-eqb b 42 g))
+      (subst (λ z. Lexes total (side line_ Solid) (47 ∷ z ∷ bs) a) (sym g) (block_begins line_ Solid slash_ bs a (omega arith) h)))
+      (λ n. tested (λ m. Next total m bs a → Run total (side line_ Solid) first (47 ∷ b ∷ bs) (after m.whole a)) b 47 _ _
+      (λ g h. run_over total (side line_ Solid) first (47 ∷ b ∷ bs) a (no_join_at 47 (b ∷ bs) (λ k. omega arith)) (or_right (b == 42) (b == 47) (eq-eqb b 47 g))
+      (subst (λ z. Lexes total (side line_ Solid) (47 ∷ z ∷ bs) a) (sym g) (line_begins line_ Solid bs a h)))
+      (λ k h. run_fails total (side line_ Solid) first (47 ∷ b ∷ bs) a (no_join_at 47 (b ∷ bs) (λ l. omega arith)) (or_from (b == 42) (b == 47) (ne_eqb b 42 n) (ne_eqb b 47 k)) h))
 
   block_ends : (line_ : Line) (start : ℕ) (stage : BlockStage) (b : ℕ) (bs : List ℕ) (a : Answer) → IsTrue (ends_block stage b) → Lexes total (side line_ Free) bs a → Blocked total (side line_ Free) (InStage stage) start (b ∷ bs) a
   block_ends line_ start InsideBlock b bs a e h = absurd (both_ways _ refl e)
@@ -283,7 +281,7 @@ module _ (total : ℕ) where
       Next total (in_mode line_ before (Block start stage) text at b) bs a → Blocked total (side line_ Free) (InStage stage) start (b ∷ bs) (after (in_mode line_ before (Block start stage) text at b).whole a)
   in_block_from line_ before start stage text at b bs a =
       cond_both (ends_block stage b) _ _ (λ m. Next total m bs a → Blocked total (side line_ Free) (InStage stage) start (b ∷ bs) (after m.whole a))
-          (λ e h. block_ends line_ start stage b bs a e h) (λ e h. block_goes line_ start stage b bs a e h)
+      (λ e h. block_ends line_ start stage b bs a e h) (λ e h. block_goes line_ start stage b bs a e h)
 
   line_stops : (line_ : Line) (stage : LineStage) (at b : ℕ) (bs : List ℕ) (a : Answer) → at + length (b ∷ bs) ≡ total → IsTrue (ends_line stage b) →
       Next total (begin line_ Free at b) bs a → Commented total (side line_ Free) (InLineStage stage) (b ∷ bs) (after (begin line_ Free at b).whole a)
@@ -295,8 +293,8 @@ module _ (total : ℕ) where
       Next total (in_mode line_ before (LineComment stage) text at b) bs a → Commented total (side line_ Free) (InLineStage stage) (b ∷ bs) (after (in_mode line_ before (LineComment stage) text at b).whole a)
   in_line_from line_ before stage text at b bs a e =
       cond_both (ends_line stage b) _ _ (λ m. Next total m bs a → Commented total (side line_ Free) (InLineStage stage) (b ∷ bs) (after m.whole a))
-          (λ f h. line_stops line_ stage at b bs a e f h)
-          (λ f h. record { rest = h.rest; comment = line_from stage b bs h.rest f h.comment; then = h.then })
+      (λ f h. line_stops line_ stage at b bs a e f h)
+      (λ f h. record { rest = h.rest; comment = line_from stage b bs h.rest f h.comment; then = h.then })
 
   pub step_from : (line_ : Line) (before : Before) (mode : Mode) (text : List ℕ) (at b : ℕ) (bs : List ℕ) (a : Answer) → Sound before mode text at → at + length (b ∷ bs) ≡ total →
       Next total (in_mode line_ before mode text at b) bs a → Completes total line_ before mode text (b ∷ bs) (after (in_mode line_ before mode text at b).whole a)

@@ -1,5 +1,5 @@
 -- The code's tables of words are those of the definitions.
-use Rattle.std.proofs.Common.{◌≡◌, List, map, refl}
+use Rattle.std.proofs.Common.{◌≡◌, map, refl}
 use Rattle.c_lexer.specs.declared.words.TheConstants.{KEYWORDS, OUTSIDE, OUTSIDE_DIRECTIVE}
 use Rattle.c_lexer.specs.Words.{keywords, outside_words, outside_directive_words}
 

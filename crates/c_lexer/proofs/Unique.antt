@@ -1,5 +1,5 @@
 -- A text has at most one answer: at each place at most one piece or fault begins, and it is as long as it is.
-use Rattle.std.proofs.Common.{◌≡◌, ◌≢◌, ◌⊎◌, ℕ, suc, ◌+◌, ◌≤◌, Bool, true, false, ◌&&◌, List, [], ◌∷◌, ◌++◌, length, Option, Some, None, refl, sym, ap, ◌∙◌, subst, subst₂, arith, inl, inr}
+use Rattle.std.proofs.Common.{◌≡◌, ℕ, List, [], ◌∷◌, ◌++◌, length, Some, None, refl, sym, ap, ◌∙◌, subst, subst₂, arith, inl, inr}
 use Rattle.std.specs.Prelude.{IsTrue, IsFalse}
 use Rattle.std.proofs.lemmas.Bool.{and_parts, both_ways}
 use Rattle.c_lexer.specs.declared.class.Class.{Class}
@@ -11,17 +11,17 @@ use Rattle.c_lexer.specs.declared.token.Punct.{Punct}
 use Rattle.c_lexer.specs.declared.token.Punct.TheVariants.{Slash}
 use Rattle.c_lexer.specs.declared.token.LexKind.{LexKind}
 use Rattle.c_lexer.specs.declared.token.LexKind.TheVariants.{BadByte}
-use Rattle.c_lexer.specs.Bytes.{Join, before_feed, before_return, NoJoin, Joins, last, more}
+use Rattle.c_lexer.specs.Bytes.{Join, before_feed, before_return, Joins, last, more}
 use Rattle.c_lexer.specs.Comments.{InBlock, star, other, AfterStar, slash, join, goes_on, InLine, text_ends, line_ends, joined, any, Comment, block, line, begins_comment}
 use Rattle.c_lexer.specs.Numbers.{is_number, integer}
 use Rattle.c_lexer.specs.Lexemes.{is_word, spelling, IsLexeme, IsLongest, Spells}
-use Rattle.c_lexer.specs.Cut.{Side, side, token, with_token, after_kind, place, allowed, Piece, blank, feed, joins, comment, hash, lexeme, BeginsNothing, Fault, bad_byte, open_comment, bad_number, split_token, Answer, tokens, fault, after, Lexes, ends, stops, goes}
+use Rattle.c_lexer.specs.Cut.{Side, side, token, with_token, after_kind, place, allowed, Piece, blank, feed, joins, comment, hash, lexeme, BeginsNothing, Fault, bad_byte, open_comment, bad_number, split_token, Answer, fault, after, Lexes, ends, stops, goes}
 use Rattle.c_lexer.specs.Classes.{class_of, growth}
 use Rattle.c_lexer.proofs.Seen.{class_letter, class_digit, digit_no_letter}
 use Rattle.c_lexer.proofs.Shapes.{shape, same_punct}
 use Rattle.c_lexer.proofs.Longest.{punct_class}
 use Rattle.c_lexer.proofs.Steps.{number_no_comment}
-use Rattle.c_lexer.proofs.Sorts.{Sort, backslash, remark, token_, nothing, sort, differ, clash, joins_sort, remark_sort, lexeme_first, lexeme_sort, piece_sort, piece_is}
+use Rattle.c_lexer.proofs.Sorts.{token_, sort, clash, joins_sort, remark_sort, lexeme_first, lexeme_sort, piece_is}
 
 join_one : {bs cs ds : List ℕ} → Join bs cs → Join bs ds → cs ≡ ds
 join_one (before_feed e f) (before_feed g h) = refl
@@ -152,9 +152,10 @@ pub record Same (ts us : List Token) (t u : Side) (cs ds : List ℕ) : Type 0 wh
 lexeme_same : (total : ℕ) (s : Side) (bs cs ds : List ℕ) (k l : TokenKind) → k ≡ l → cs ≡ ds →
     Same (token k (place total bs) (place total cs) ∷ []) (token l (place total bs) (place total ds) ∷ []) (side (with_token s.line) (after_kind k)) (side (with_token s.line) (after_kind l)) cs ds
 lexeme_same total s bs cs ds k l e f = record {
-    tokens = ap (λ z. token z (place total bs) (place total cs) ∷ []) e ∙ ap (λ z. token l (place total bs) (place total z) ∷ []) f;
-    side = ap (λ z. side (with_token s.line) (after_kind z)) e;
-    rest = f }
+  tokens = ap (λ z. token z (place total bs) (place total cs) ∷ []) e ∙ ap (λ z. token l (place total bs) (place total z) ∷ []) f;
+  side = ap (λ z. side (with_token s.line) (after_kind z)) e;
+  rest = f;
+}
 
 piece_one : {total : ℕ} {s t u : Side} {bs cs ds : List ℕ} {ts us : List Token} → Piece total s bs ts t cs → Piece total s bs us u ds → Same ts us t u cs ds
 piece_one (blank e) (blank f) = record { tokens = refl; side = refl; rest = refl }

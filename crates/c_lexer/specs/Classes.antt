@@ -1,12 +1,12 @@
 -- Tables of bytes and punctuators: what a byte begins, and what it makes of the punctuator before it.
-use Rattle.std.specs.Prelude.{ℕ, Bool, ◌&&◌, ◌==◌, if◌then◌else◌}
+use Rattle.std.specs.Prelude.{ℕ, ◌==◌, if◌then◌else◌}
 use Rattle.std.specs.Char.{is_ascii_digit}
 use Rattle.c_lexer.specs.declared.class.Class.{Class}
 use Rattle.c_lexer.specs.declared.class.Class.TheVariants.{Feed, Blank, Backslash, Letter, Digit, Hash, Punct as Punctuator, Other}
 use Rattle.c_lexer.specs.declared.mode.Growth.{Growth}
 use Rattle.c_lexer.specs.declared.mode.Growth.TheVariants.{Grows, Dots, OpensBlock, OpensLine, Ends}
 use Rattle.c_lexer.specs.declared.token.Punct.{Punct}
-use Rattle.c_lexer.specs.declared.token.Punct.TheVariants.{SquareOpen, SquareClose, RoundOpen, RoundClose, CurlyOpen, CurlyClose, Dot, Arrow, PlusPlus, MinusMinus, And, Star, Plus, Minus, Tilde, Bang, Slash, Percent, ShiftLeft, ShiftRight, Less, Greater, LessEq, GreaterEq, EqEq, BangEq, Caret, Bar, AndAnd, BarBar, Question, Colon, Semicolon, Ellipsis, Assign, StarAssign, SlashAssign, PercentAssign, PlusAssign, MinusAssign, ShiftLeftAssign, ShiftRightAssign, AndAssign, CaretAssign, BarAssign, Comma}
+use Rattle.c_lexer.specs.declared.token.Punct.TheVariants.{SquareOpen, SquareClose, RoundOpen, RoundClose, CurlyOpen, CurlyClose, Dot, Arrow, PlusPlus, MinusMinus, And, Star, Plus, Minus, Tilde, Bang, Slash, Percent, ShiftLeft, ShiftRight, Less, Greater, LessEq, GreaterEq, EqEq, BangEq, Caret, Bar, AndAnd, BarBar, Question, Colon, Semicolon, Assign, StarAssign, SlashAssign, PercentAssign, PlusAssign, MinusAssign, ShiftLeftAssign, ShiftRightAssign, AndAssign, CaretAssign, BarAssign, Comma}
 use Rattle.c_lexer.specs.Bytes.{is_blank, is_feed, begins_word}
 
 abbrev pub class_of_mark : ℕ → Class
@@ -51,20 +51,24 @@ class_of b =
 abbrev pub with_equals : ℕ → Punct → Growth
 with_equals b p = if b == 61 then Grows p else Ends
 
+-- the punctuator before it with the byte n, or with `=`
+abbrev pub with_second : ℕ → ℕ → Punct → Punct → Growth
+with_second b n p q = if b == n then Grows p else with_equals b q
+
 abbrev pub growth : Punct → ℕ → Growth
 growth Dot b = if b == 46 then Dots else Ends
-growth And b = if b == 38 then Grows AndAnd else with_equals b AndAssign
+growth And b = with_second b 38 AndAnd AndAssign
 growth Star b = with_equals b StarAssign
-growth Plus b = if b == 43 then Grows PlusPlus else with_equals b PlusAssign
-growth Minus b = if b == 62 then Grows Arrow else if b == 45 then Grows MinusMinus else with_equals b MinusAssign
+growth Plus b = with_second b 43 PlusPlus PlusAssign
+growth Minus b = if b == 62 then Grows Arrow else with_second b 45 MinusMinus MinusAssign
 growth Bang b = with_equals b BangEq
 growth Slash b = if b == 42 then OpensBlock else if b == 47 then OpensLine else with_equals b SlashAssign
 growth Percent b = with_equals b PercentAssign
 growth ShiftLeft b = with_equals b ShiftLeftAssign
 growth ShiftRight b = with_equals b ShiftRightAssign
-growth Less b = if b == 60 then Grows ShiftLeft else with_equals b LessEq
-growth Greater b = if b == 62 then Grows ShiftRight else with_equals b GreaterEq
+growth Less b = with_second b 60 ShiftLeft LessEq
+growth Greater b = with_second b 62 ShiftRight GreaterEq
 growth Caret b = with_equals b CaretAssign
-growth Bar b = if b == 124 then Grows BarBar else with_equals b BarAssign
+growth Bar b = with_second b 124 BarBar BarAssign
 growth Assign b = with_equals b EqEq
 growth p b = Ends

@@ -1,20 +1,19 @@
 -- The tokens that a text is cut into, and its first lexical fault (C11 5.1.1.2, phases 2 and 3, and 6.4; which joins
 -- are allowed is a rule of the profile).
-use Rattle.std.specs.Prelude.{◌≡◌, ℕ, ◌-◌, Bool, true, false, not, ◌&&◌, ◌||◌, List, [], ◌∷◌, ◌++◌, length, Option, None, IsTrue, IsFalse}
-use Rattle.c_tree.specs.declared.tree.Span.{Span}
+use Rattle.std.specs.Prelude.{◌≡◌, ℕ, ◌-◌, Bool, true, not, ◌&&◌, ◌||◌, List, [], ◌∷◌, ◌++◌, length, None, IsTrue, IsFalse}
 use Rattle.c_lexer.specs.declared.context.Line.{Line}
 use Rattle.c_lexer.specs.declared.context.Line.TheVariants.{Fresh, Begun, Directive}
 use Rattle.c_lexer.specs.declared.context.Before.{Before}
 use Rattle.c_lexer.specs.declared.context.Before.TheVariants.{Free, Solid, Slash as AfterSlash}
 use Rattle.c_lexer.specs.declared.token.Token.{Token}
 use Rattle.c_lexer.specs.declared.token.TokenKind.{TokenKind}
-use Rattle.c_lexer.specs.declared.token.TokenKind.TheVariants.{Word, Number, Punct as Punctuator, Hash, LineEnd, End}
+use Rattle.c_lexer.specs.declared.token.TokenKind.TheVariants.{Punct as Punctuator, Hash, LineEnd, End}
 use Rattle.c_lexer.specs.declared.token.Punct.TheVariants.{Slash}
 use Rattle.c_lexer.specs.declared.token.LexKind.{LexKind}
 use Rattle.c_lexer.specs.declared.token.LexKind.TheVariants.{BadByte, OpenComment, BadNumber, SplitToken}
 use Rattle.c_lexer.specs.declared.token.LexFault.{LexFault}
 use Rattle.c_lexer.specs.declared.token.LexFault.TheVariants.{At, Memory}
-use Rattle.c_lexer.specs.Bytes.{is_blank, is_feed, Join, NoJoin, Joins}
+use Rattle.c_lexer.specs.Bytes.{is_blank, is_feed, NoJoin, Joins}
 use Rattle.c_lexer.specs.Comments.{begins_comment, InBlock, Comment}
 use Rattle.c_lexer.specs.Numbers.{is_number, integer}
 use Rattle.c_lexer.specs.Lexemes.{IsLexeme, IsLongest, Spells}

@@ -1,5 +1,5 @@
 -- The lexer as a machine that takes a byte at a time.
-use Rattle.std.specs.Prelude.{ℕ, ◌+◌, Bool, true, false, ◌&&◌, ◌||◌, ◌==◌, if◌then◌else◌, List, [], ◌∷◌, ◌++◌, Option, Some, None}
+use Rattle.std.specs.Prelude.{ℕ, ◌+◌, Bool, false, ◌||◌, ◌==◌, if◌then◌else◌, List, [], ◌∷◌, ◌++◌, Option, Some, None}
 use Rattle.c_lexer.specs.declared.class.Class.{Class}
 use Rattle.c_lexer.specs.declared.class.Class.TheVariants.{Feed, Blank, Backslash as BackslashByte, Letter, Digit, Hash as HashByte, Punct as Punctuation, Other}
 use Rattle.c_lexer.specs.declared.mode.Growth.{Growth}
@@ -11,14 +11,14 @@ use Rattle.c_lexer.specs.declared.mode.BlockStage.TheVariants.{Inside as InBlock
 use Rattle.c_lexer.specs.declared.mode.LineStage.{LineStage}
 use Rattle.c_lexer.specs.declared.mode.LineStage.TheVariants.{Inside as InLine, Backslash as LineBackslash, Return as LineReturn}
 use Rattle.c_lexer.specs.declared.context.Line.{Line}
-use Rattle.c_lexer.specs.declared.context.Line.TheVariants.{Fresh, Begun, Directive}
+use Rattle.c_lexer.specs.declared.context.Line.TheVariants.{Fresh, Directive}
 use Rattle.c_lexer.specs.declared.context.Before.{Before}
 use Rattle.c_lexer.specs.declared.context.Before.TheVariants.{Free, Solid, Slash as AfterSlash}
 use Rattle.c_lexer.specs.declared.token.Token.{Token}
 use Rattle.c_lexer.specs.declared.token.TokenKind.{TokenKind}
-use Rattle.c_lexer.specs.declared.token.TokenKind.TheVariants.{Word, Number, Punct as Punctuator, Hash, LineEnd, End}
+use Rattle.c_lexer.specs.declared.token.TokenKind.TheVariants.{Word, Punct as Punctuator, Hash, End}
 use Rattle.c_lexer.specs.declared.token.Punct.{Punct}
-use Rattle.c_lexer.specs.declared.token.Punct.TheVariants.{Dot, Slash, Ellipsis}
+use Rattle.c_lexer.specs.declared.token.Punct.TheVariants.{Dot, Ellipsis}
 use Rattle.c_lexer.specs.declared.token.LexKind.{LexKind}
 use Rattle.c_lexer.specs.declared.token.LexKind.TheVariants.{BadByte, OpenComment, BadNumber, SplitToken}
 use Rattle.c_lexer.specs.Bytes.{is_blank, is_feed, goes_in_word}
@@ -124,10 +124,10 @@ abbrev pub in_mode : Line → Before → Mode → List ℕ → ℕ → ℕ → M
 in_mode line before Between text at b = begin line before at b
 in_mode line before (InWord start) text at b =
     if goes_in_word b then to (record { line = line; before = before; mode = InWord start; text = text ++ b ∷ [] })
-        else ends_token line (Word text) start at b
+    else ends_token line (Word text) start at b
 in_mode line before (InNumber start last) text at b =
     if goes_on last b then to (record { line = line; before = before; mode = InNumber start b; text = text ++ b ∷ [] })
-        else ends_number line (integer text) start at b
+    else ends_number line (integer text) start at b
 in_mode line before (InPunct start p) text at b = grows line before p start at b (growth p b)
 in_mode line before (TwoDots start second) text at b =
     if b == 46 then to (state line before (InPunct start Ellipsis)) else two_dots line start second at b

@@ -69,4 +69,4 @@ integer w =
     let number = without_suffix w in
     let value = digits_value (radix_of number) (digits_of number) in
     if are_digits (radix_of number) (digits_of number) && is_in_range long (radix_of number) value
-        then Some (Number value (type_of long value) (is_plain_zero w)) else None
+    then Some (Number value (type_of long value) (is_plain_zero w)) else None

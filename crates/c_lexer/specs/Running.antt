@@ -1,10 +1,9 @@
 -- The code's machine as a state of the machine, and runs over whole pieces.
-use Rattle.std.specs.Prelude.{◌≡◌, ℕ, ◌+◌, List, [], ◌∷◌, ◌++◌, Option, Some, None}
+use Rattle.std.specs.Prelude.{◌≡◌, ℕ, ◌+◌, List, [], ◌∷◌, ◌++◌}
 use Rattle.c_lexer.specs.declared.mode.OpenPiece.{OpenPiece}
 use Rattle.c_lexer.specs.declared.mode.Mode.{Mode}
 use Rattle.c_lexer.specs.declared.mode.Mode.TheVariants.{Word as InWord, Number as InNumber}
 use Rattle.c_lexer.specs.declared.machine.Machine.{Machine}
-use Rattle.c_lexer.specs.declared.token.Token.{Token}
 use Rattle.c_lexer.specs.Machine.{State, Move, step, to, gives}
 
 -- the bytes of an open word or number; those of other pieces do not matter

@@ -57,15 +57,28 @@ impl Machine {
                 Ok(with_token(self.piece.line))
             }
             Mode::TwoDots { start, second } => {
-                push_token(&mut self.tokens, TokenKind::Punct(Punct::Dot), start, second)?;
+                push_token(
+                    &mut self.tokens,
+                    TokenKind::Punct(Punct::Dot),
+                    start,
+                    second,
+                )?;
                 push_token(&mut self.tokens, TokenKind::Punct(Punct::Dot), second, at)?;
                 Ok(with_token(with_token(self.piece.line)))
             }
             Mode::Backslash { first } => Err(LexFault::At(LexKind::BadByte, first)),
             Mode::BackslashReturn { first } => Err(LexFault::At(LexKind::BadByte, first)),
             Mode::Joined { first: _ } => Ok(self.piece.line),
-            Mode::JoinedBackslash { first, last } => Err(backslash_fault(self.piece.before, first, last)),
-            Mode::JoinedReturn { first, last } => Err(backslash_fault(self.piece.before, first, last)),
+            Mode::JoinedBackslash { first, last } => Err(backslash_fault(
+                self.piece.before,
+                first,
+                last,
+            )),
+            Mode::JoinedReturn { first, last } => Err(backslash_fault(
+                self.piece.before,
+                first,
+                last,
+            )),
             Mode::JoinedSlash { first, slash: _ } => Err(LexFault::At(LexKind::SplitToken, first)),
             Mode::Block { start, stage: _ } => Err(LexFault::At(LexKind::OpenComment, start)),
             Mode::LineComment { stage: _ } => Ok(self.piece.line),

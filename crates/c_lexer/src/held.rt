@@ -103,7 +103,11 @@ impl HeldText {
     pub fn bytes(&self) -> &[u8]
         ensures { result.now ≡ self.now.1 }
     {
-        if self.replaced { self.later.as_slice() } else { self.first.as_slice() }
+        if self.replaced {
+            self.later.as_slice()
+        } else {
+            self.first.as_slice()
+        }
     }
 
     /// The byte begins a word or number.

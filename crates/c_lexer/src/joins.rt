@@ -1,6 +1,6 @@
 //! The machine in runs of joins and in comments.
 
-ghost use Rattle.std.specs.Prelude.{◌≡◌, ℕ, ◌<◌, ◌^◌, OnOk};
+ghost use Rattle.std.specs.Prelude.{◌≡◌, ◌<◌, ◌^◌, OnOk};
 ghost use Rattle.c_lexer.specs.Machine.{leaves_run, bad_backslash, block_stage, ends_block, line_stage, ends_line, in_mode};
 ghost use Rattle.c_lexer.specs.Running.{Follows, IsKept};
 
@@ -16,7 +16,11 @@ fn block_stage(stage: BlockStage, byte: u8) -> BlockStage
     ensures { result ≡ block_stage stage byte }
 {
     match stage {
-        BlockStage::Inside => if byte == b'*' { BlockStage::Star } else { BlockStage::Inside },
+        BlockStage::Inside => if byte == b'*' {
+            BlockStage::Star
+        } else {
+            BlockStage::Inside
+        },
         BlockStage::Star => {
             if byte == b'*' {
                 BlockStage::Star
@@ -64,7 +68,11 @@ fn line_stage(stage: LineStage, byte: u8) -> LineStage
     ensures { result ≡ line_stage stage byte }
 {
     match stage {
-        LineStage::Inside => if byte == b'\\' { LineStage::Backslash } else { LineStage::Inside },
+        LineStage::Inside => if byte == b'\\' {
+            LineStage::Backslash
+        } else {
+            LineStage::Inside
+        },
         LineStage::Backslash => {
             if byte == b'\\' {
                 LineStage::Backslash
@@ -74,7 +82,11 @@ fn line_stage(stage: LineStage, byte: u8) -> LineStage
                 LineStage::Inside
             }
         }
-        LineStage::Return => if byte == b'\\' { LineStage::Backslash } else { LineStage::Inside },
+        LineStage::Return => if byte == b'\\' {
+            LineStage::Backslash
+        } else {
+            LineStage::Inside
+        },
     }
 }
 
@@ -91,7 +103,7 @@ fn ends_line(stage: LineStage, byte: u8) -> bool
 impl Machine {
     /// A backslash begins a join, or nothing.
     pub fn in_backslash(&mut self, first: u64, byte: u8)
-        ensures follows { (at : ℕ) → Follows self.old self.new (in_mode self.old.piece.line self.old.piece.before (Mode.Backslash first) self.old.text.1 at byte) }
+        ensures follows { Follows self.old self.new (in_mode self.old.piece.line self.old.piece.before (Mode.Backslash first) self.old.text.1 0 byte) }
         ensures kept { IsKept self.old self.new }
     {
         if byte == b'\n' {
@@ -104,7 +116,7 @@ impl Machine {
     }
 
     pub fn in_backslash_return(&mut self, first: u64, byte: u8)
-        ensures follows { (at : ℕ) → Follows self.old self.new (in_mode self.old.piece.line self.old.piece.before (Mode.BackslashReturn first) self.old.text.1 at byte) }
+        ensures follows { Follows self.old self.new (in_mode self.old.piece.line self.old.piece.before (Mode.BackslashReturn first) self.old.text.1 0 byte) }
         ensures kept { IsKept self.old self.new }
     {
         if byte == b'\n' {
@@ -171,7 +183,7 @@ impl Machine {
     }
 
     pub fn in_joined_backslash(&mut self, first: u64, last: u64, byte: u8)
-        ensures follows { (at : ℕ) → Follows self.old self.new (in_mode self.old.piece.line self.old.piece.before (Mode.JoinedBackslash first last) self.old.text.1 at byte) }
+        ensures follows { Follows self.old self.new (in_mode self.old.piece.line self.old.piece.before (Mode.JoinedBackslash first last) self.old.text.1 0 byte) }
         ensures kept { IsKept self.old self.new }
     {
         if byte == b'\n' {
@@ -184,7 +196,7 @@ impl Machine {
     }
 
     pub fn in_joined_return(&mut self, first: u64, last: u64, byte: u8)
-        ensures follows { (at : ℕ) → Follows self.old self.new (in_mode self.old.piece.line self.old.piece.before (Mode.JoinedReturn first last) self.old.text.1 at byte) }
+        ensures follows { Follows self.old self.new (in_mode self.old.piece.line self.old.piece.before (Mode.JoinedReturn first last) self.old.text.1 0 byte) }
         ensures kept { IsKept self.old self.new }
     {
         if byte == b'\n' {
@@ -196,7 +208,7 @@ impl Machine {
 
     /// After a run that asks for white space or a comment, a `/` begins a comment, or the run is a fault.
     pub fn in_joined_slash(&mut self, first: u64, slash: u64, byte: u8)
-        ensures follows { (at : ℕ) → Follows self.old self.new (in_mode self.old.piece.line self.old.piece.before (Mode.JoinedSlash first slash) self.old.text.1 at byte) }
+        ensures follows { Follows self.old self.new (in_mode self.old.piece.line self.old.piece.before (Mode.JoinedSlash first slash) self.old.text.1 0 byte) }
         ensures kept { IsKept self.old self.new }
     {
         if byte == b'*' {
@@ -215,7 +227,7 @@ impl Machine {
 
     /// A block comment goes on, or ends with the byte.
     pub fn in_block(&mut self, start: u64, stage: BlockStage, byte: u8)
-        ensures follows { (at : ℕ) → Follows self.old self.new (in_mode self.old.piece.line self.old.piece.before (Mode.Block start stage) self.old.text.1 at byte) }
+        ensures follows { Follows self.old self.new (in_mode self.old.piece.line self.old.piece.before (Mode.Block start stage) self.old.text.1 0 byte) }
         ensures kept { IsKept self.old self.new }
     {
         if ends_block(stage, byte) {

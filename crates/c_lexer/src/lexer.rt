@@ -100,5 +100,4 @@ pub fn one_answer()
         → (this ≡ that) × (here ≡ there) }
     ensures not_both { (text : List ℕ) (tokens : List Token) (kind : LexKind) (place : ℕ) → Cut text tokens → FirstFault text kind place → ⊥ }
     ensures some { (text : List ℕ) → ((tokens : List Token) × Cut text tokens) ⊎ ((kind : LexKind) × (place : ℕ) × FirstFault text kind place) }
-{
-}
+{}

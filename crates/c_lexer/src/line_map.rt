@@ -103,6 +103,10 @@ impl LineMap {
     {
         let before = places_below(&self.feeds, place);
         let line = before as u64 + 1;
-        if before == 0 { (line, place + 1) } else { (line, place - self.feeds[before - 1]) }
+        if before == 0 {
+            (line, place + 1)
+        } else {
+            (line, place - self.feeds[before - 1])
+        }
     }
 }

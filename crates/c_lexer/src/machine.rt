@@ -48,7 +48,12 @@ pub fn after_kind(kind: &TokenKind) -> Before
 }
 
 /// Adds a token.
-pub fn push_token(tokens: &mut HeldTokens, kind: TokenKind, start: u64, end: u64) -> Result<(), AllocError>
+pub fn push_token(
+    tokens: &mut HeldTokens,
+    kind: TokenKind,
+    start: u64,
+    end: u64,
+) -> Result<(), AllocError>
     ensures before { tokens.new.0 ≡ tokens.old.0 }
     ensures ok { OnOk result (tokens.new.1 ≡ tokens.old.1 ++ token kind start end ∷ []) }
 {
@@ -71,16 +76,21 @@ pub fn push_line_end(tokens: &mut HeldTokens, line: Line, at: u64) -> Result<(),
 }
 
 impl Machine {
-    /// The rest of the text doesn't matter.
+    /// Opens a piece that holds no text.
+    fn enter(&mut self, line: Line, before: Before, mode: Mode)
+        ensures piece { self.new.piece ≡ record { line = line; before = before; mode = mode } }
+        ensures text { self.new.text ≡ self.old.text }
+        ensures tokens { self.new.tokens ≡ self.old.tokens }
+    {
+        self.piece = OpenPiece { line, before, mode };
+    }
+
+    /// The text has its first fault, so the rest of it doesn't matter.
     pub fn fail(&mut self, kind: LexKind, place: u64)
         ensures follows { Follows self.old self.new (faulted kind place) }
         ensures kept { IsKept self.old self.new }
     {
-        self.piece = OpenPiece {
-            line: Line::Fresh,
-            before: Before::Free,
-            mode: Mode::Faulted { kind, place },
-        };
+        self.enter(Line::Fresh, Before::Free, Mode::Faulted { kind, place });
     }
 
     /// A byte begins a piece.
@@ -92,61 +102,30 @@ impl Machine {
         match class_of(byte) {
             Class::Feed => {
                 push_line_end(&mut self.tokens, line, at)?;
-                self.piece = OpenPiece {
-                    line: Line::Fresh,
-                    before: Before::Free,
-                    mode: Mode::Between,
-                };
-                Ok(())
+                self.enter(Line::Fresh, Before::Free, Mode::Between);
             }
-            Class::Blank => {
-                self.piece = OpenPiece {
-                    line,
-                    before: Before::Free,
-                    mode: Mode::Between,
-                };
-                Ok(())
-            }
-            Class::Backslash => {
-                self.piece = OpenPiece {
-                    line,
-                    before,
-                    mode: Mode::Backslash { first: at },
-                };
-                Ok(())
-            }
+            Class::Blank => self.enter(line, Before::Free, Mode::Between),
+            Class::Backslash => self.enter(line, before, Mode::Backslash { first: at }),
             Class::Letter => {
                 self.text.begin(byte)?;
-                self.piece = OpenPiece {
-                    line,
-                    before,
-                    mode: Mode::Word { start: at },
-                };
-                Ok(())
+                self.enter(line, before, Mode::Word { start: at });
             }
             Class::Digit => {
                 self.text.begin(byte)?;
-                self.piece = OpenPiece {
+                self.enter(
                     line,
                     before,
-                    mode: Mode::Number { start: at, last: byte },
-                };
-                Ok(())
+                    Mode::Number {
+                        start: at,
+                        last: byte,
+                    },
+                );
             }
-            Class::Hash => self.begin_directive(line, at),
-            Class::Punct(punct) => {
-                self.piece = OpenPiece {
-                    line,
-                    before,
-                    mode: Mode::Punct { start: at, punct },
-                };
-                Ok(())
-            }
-            Class::Other => {
-                self.fail(LexKind::BadByte, at);
-                Ok(())
-            }
+            Class::Hash => self.begin_directive(line, at)?,
+            Class::Punct(punct) => self.enter(line, before, Mode::Punct { start: at, punct }),
+            Class::Other => self.fail(LexKind::BadByte, at),
         }
+        Ok(())
     }
 
     /// A `#` begins a `#` line, where it is the first token on its line.
@@ -158,11 +137,7 @@ impl Machine {
         match line {
             Line::Fresh => {
                 push_token(&mut self.tokens, TokenKind::Hash, at, at + 1)?;
-                self.piece = OpenPiece {
-                    line: Line::Directive,
-                    before: Before::Solid,
-                    mode: Mode::Between,
-                };
+                self.enter(Line::Directive, Before::Solid, Mode::Between);
                 Ok(())
             }
             Line::Begun => {
@@ -241,14 +216,23 @@ impl Machine {
     }
 
     /// A punctuator grows, or ends before the byte.
-    pub fn in_punct(&mut self, start: u64, punct: Punct, at: u64, byte: u8) -> Result<(), AllocError>
+    pub fn in_punct(
+        &mut self,
+        start: u64,
+        punct: Punct,
+        at: u64,
+        byte: u8,
+    ) -> Result<(), AllocError>
         requires { at < 2 ^ 63 }
         ensures ok { OnOk result (Follows self.old self.new (in_mode self.old.piece.line self.old.piece.before (Mode.Punct start punct) self.old.text.1 at byte)) }
         ensures kept { IsKept self.old self.new }
     {
         match growth(punct, byte) {
             Growth::Grows(longer) => {
-                self.piece.mode = Mode::Punct { start, punct: longer };
+                self.piece.mode = Mode::Punct {
+                    start,
+                    punct: longer,
+                };
                 Ok(())
             }
             Growth::Dots => {
@@ -256,29 +240,60 @@ impl Machine {
                 Ok(())
             }
             Growth::OpensBlock => {
-                self.piece.mode = Mode::Block { start, stage: BlockStage::Inside };
+                self.piece.mode = Mode::Block {
+                    start,
+                    stage: BlockStage::Inside,
+                };
                 Ok(())
             }
             Growth::OpensLine => {
-                self.piece.mode = Mode::LineComment { stage: LineStage::Inside };
+                self.piece.mode = Mode::LineComment {
+                    stage: LineStage::Inside,
+                };
                 Ok(())
             }
-            Growth::Ends => self.end_token(self.piece.line, TokenKind::Punct(punct), start, at, byte),
+            Growth::Ends => self.end_token(
+                self.piece.line,
+                TokenKind::Punct(punct),
+                start,
+                at,
+                byte,
+            ),
         }
     }
 
     /// Two dots become an ellipsis, or are two tokens before the byte.
-    pub fn in_two_dots(&mut self, start: u64, second: u64, at: u64, byte: u8) -> Result<(), AllocError>
+    pub fn in_two_dots(
+        &mut self,
+        start: u64,
+        second: u64,
+        at: u64,
+        byte: u8,
+    ) -> Result<(), AllocError>
         requires { at < 2 ^ 63 }
         ensures ok { OnOk result (Follows self.old self.new (in_mode self.old.piece.line self.old.piece.before (Mode.TwoDots start second) self.old.text.1 at byte)) }
         ensures kept { IsKept self.old self.new }
     {
         if byte == b'.' {
-            self.piece.mode = Mode::Punct { start, punct: Punct::Ellipsis };
+            self.piece.mode = Mode::Punct {
+                start,
+                punct: Punct::Ellipsis,
+            };
             Ok(())
         } else {
-            push_token(&mut self.tokens, TokenKind::Punct(Punct::Dot), start, second)?;
-            self.end_token(with_token(self.piece.line), TokenKind::Punct(Punct::Dot), second, at, byte)
+            push_token(
+                &mut self.tokens,
+                TokenKind::Punct(Punct::Dot),
+                start,
+                second,
+            )?;
+            self.end_token(
+                with_token(self.piece.line),
+                TokenKind::Punct(Punct::Dot),
+                second,
+                at,
+                byte,
+            )
         }
     }
 }
@@ -308,42 +323,22 @@ impl Machine {
         ensures kept { IsKept self.old self.new }
     {
         match self.piece.mode {
-            Mode::Between => self.begin(self.piece.line, self.piece.before, at, byte),
-            Mode::Word { start } => self.in_word(start, at, byte),
-            Mode::Number { start, last } => self.in_number(start, last, at, byte),
-            Mode::Punct { start, punct } => self.in_punct(start, punct, at, byte),
-            Mode::TwoDots { start, second } => self.in_two_dots(start, second, at, byte),
-            Mode::Backslash { first } => {
-                self.in_backslash(first, byte);
-                Ok(())
-            }
-            Mode::BackslashReturn { first } => {
-                self.in_backslash_return(first, byte);
-                Ok(())
-            }
-            Mode::Joined { first } => self.in_joined(first, at, byte),
-            Mode::JoinedBackslash { first, last } => {
-                self.in_joined_backslash(first, last, byte);
-                Ok(())
-            }
-            Mode::JoinedReturn { first, last } => {
-                self.in_joined_return(first, last, byte);
-                Ok(())
-            }
-            Mode::JoinedSlash { first, slash } => {
-                self.in_joined_slash(first, slash, byte);
-                Ok(())
-            }
-            Mode::Block { start, stage } => {
-                self.in_block(start, stage, byte);
-                Ok(())
-            }
-            Mode::LineComment { stage } => self.in_line(stage, at, byte),
-            Mode::Faulted { kind, place } => {
-                self.fail(kind, place);
-                Ok(())
-            }
+            Mode::Between => self.begin(self.piece.line, self.piece.before, at, byte)?,
+            Mode::Word { start } => self.in_word(start, at, byte)?,
+            Mode::Number { start, last } => self.in_number(start, last, at, byte)?,
+            Mode::Punct { start, punct } => self.in_punct(start, punct, at, byte)?,
+            Mode::TwoDots { start, second } => self.in_two_dots(start, second, at, byte)?,
+            Mode::Backslash { first } => self.in_backslash(first, byte),
+            Mode::BackslashReturn { first } => self.in_backslash_return(first, byte),
+            Mode::Joined { first } => self.in_joined(first, at, byte)?,
+            Mode::JoinedBackslash { first, last } => self.in_joined_backslash(first, last, byte),
+            Mode::JoinedReturn { first, last } => self.in_joined_return(first, last, byte),
+            Mode::JoinedSlash { first, slash } => self.in_joined_slash(first, slash, byte),
+            Mode::Block { start, stage } => self.in_block(start, stage, byte),
+            Mode::LineComment { stage } => self.in_line(stage, at, byte)?,
+            Mode::Faulted { kind, place } => self.fail(kind, place),
         }
+        Ok(())
     }
 
     /// A piece of the text, whose first byte stands at a place. After an error only what was there before is known.

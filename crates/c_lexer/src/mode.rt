@@ -11,7 +11,6 @@ pub struct OpenPiece {
     pub mode: Mode,
 }
 
-
 /// Which piece is open, with the places that its end asks for.
 #[derive(Clone, Copy)]
 pub enum Mode {

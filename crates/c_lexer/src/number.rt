@@ -83,7 +83,11 @@ fn is_in_range(long: bool, radix: u8, value: u64) -> bool
 fn type_of(long: bool, value: u64) -> Ty
     ensures { result ≡ type_of long value }
 {
-    if long || value > (1 << 31) - 1 { Ty::Long } else { Ty::Int }
+    if long || value > (1 << 31) - 1 {
+        Ty::Long
+    } else {
+        Ty::Int
+    }
 }
 
 /// The radix of a number without suffix, and its digits.
@@ -129,7 +133,11 @@ fn without_suffix(text: &[u8], suffixed: bool) -> &[u8]
     requires { suffixed ≡ is_suffixed text.now }
     ensures { result.now ≡ without_suffix text.now }
 {
-    if suffixed { &text[..text.len() - 2] } else { text }
+    if suffixed {
+        &text[..text.len() - 2]
+    } else {
+        text
+    }
 }
 
 fn is_plain_zero(text: &[u8]) -> bool

@@ -1,7 +1,7 @@
 //! How punctuators grow byte by byte.
 
-ghost use Rattle.std.specs.Prelude.{◌≡◌, ℕ, ◌==◌};
-ghost use Rattle.c_lexer.specs.Classes.{growth, with_equals};
+ghost use Rattle.std.specs.Prelude.{◌≡◌, ◌==◌};
+ghost use Rattle.c_lexer.specs.Classes.{growth, with_equals, with_second};
 
 use crate::mode::Growth;
 use crate::token::Punct;
@@ -10,7 +10,22 @@ use crate::token::Punct;
 fn with_equals(byte: u8, longer: Punct) -> Growth
     ensures { result ≡ with_equals byte longer }
 {
-    if byte == b'=' { Growth::Grows(longer) } else { Growth::Ends }
+    if byte == b'=' {
+        Growth::Grows(longer)
+    } else {
+        Growth::Ends
+    }
+}
+
+/// The first of two longer punctuators where the byte is `second`, the other where it is `=`.
+fn with_second(byte: u8, second: u8, longer: Punct, other: Punct) -> Growth
+    ensures { result ≡ with_second byte second longer other }
+{
+    if byte == second {
+        Growth::Grows(longer)
+    } else {
+        with_equals(byte, other)
+    }
 }
 
 /// What the byte makes of the punctuator directly before it.
@@ -18,37 +33,45 @@ pub fn growth(punct: Punct, byte: u8) -> Growth
     ensures { result ≡ growth punct byte }
 {
     match punct {
-        Punct::Dot => if byte == b'.' { Growth::Dots } else { Growth::Ends },
-        Punct::And => if byte == b'&' { Growth::Grows(Punct::AndAnd) } else { with_equals(byte, Punct::AndAssign) },
+        Punct::Dot => if byte == b'.' {
+            Growth::Dots
+        } else {
+            Growth::Ends
+        },
+        Punct::And => with_second(byte, b'&', Punct::AndAnd, Punct::AndAssign),
         Punct::Star => with_equals(byte, Punct::StarAssign),
-        Punct::Plus => if byte == b'+' { Growth::Grows(Punct::PlusPlus) } else { with_equals(byte, Punct::PlusAssign) },
-        Punct::Minus => {
-            if byte == b'>' {
-                Growth::Grows(Punct::Arrow)
-            } else if byte == b'-' {
-                Growth::Grows(Punct::MinusMinus)
-            } else {
-                with_equals(byte, Punct::MinusAssign)
-            }
-        }
+        Punct::Plus => with_second(byte, b'+', Punct::PlusPlus, Punct::PlusAssign),
+        Punct::Minus => after_minus(byte),
         Punct::Bang => with_equals(byte, Punct::BangEq),
-        Punct::Slash => {
-            if byte == b'*' {
-                Growth::OpensBlock
-            } else if byte == b'/' {
-                Growth::OpensLine
-            } else {
-                with_equals(byte, Punct::SlashAssign)
-            }
-        }
+        Punct::Slash => after_slash(byte),
         Punct::Percent => with_equals(byte, Punct::PercentAssign),
         Punct::ShiftLeft => with_equals(byte, Punct::ShiftLeftAssign),
         Punct::ShiftRight => with_equals(byte, Punct::ShiftRightAssign),
-        Punct::Less => if byte == b'<' { Growth::Grows(Punct::ShiftLeft) } else { with_equals(byte, Punct::LessEq) },
-        Punct::Greater => if byte == b'>' { Growth::Grows(Punct::ShiftRight) } else { with_equals(byte, Punct::GreaterEq) },
+        Punct::Less => with_second(byte, b'<', Punct::ShiftLeft, Punct::LessEq),
+        Punct::Greater => with_second(byte, b'>', Punct::ShiftRight, Punct::GreaterEq),
         Punct::Caret => with_equals(byte, Punct::CaretAssign),
-        Punct::Bar => if byte == b'|' { Growth::Grows(Punct::BarBar) } else { with_equals(byte, Punct::BarAssign) },
+        Punct::Bar => with_second(byte, b'|', Punct::BarBar, Punct::BarAssign),
         Punct::Assign => with_equals(byte, Punct::EqEq),
         _ => Growth::Ends,
+    }
+}
+
+fn after_minus(byte: u8) -> Growth
+    ensures { result ≡ growth Punct.Minus byte }
+{
+    if byte == b'>' {
+        Growth::Grows(Punct::Arrow)
+    } else {
+        with_second(byte, b'-', Punct::MinusMinus, Punct::MinusAssign)
+    }
+}
+
+fn after_slash(byte: u8) -> Growth
+    ensures { result ≡ growth Punct.Slash byte }
+{
+    match byte {
+        b'*' => Growth::OpensBlock,
+        b'/' => Growth::OpensLine,
+        _ => with_equals(byte, Punct::SlashAssign),
     }
 }

@@ -62,7 +62,10 @@ const NUMBERS: [(&str, &str); 25] = [
 ];
 
 const PUNCTUATORS: [(&str, &str); 8] = [
-    ("[ ] ( ) { } . -> ++ -- & * + - ~ ! / % << >> < > <= >= == != ^ | && || ? : ; ... = *= /= %= += -= <<= >>= &= ^= |= ,", "SquareOpen:0:1 SquareClose:2:3 RoundOpen:4:5 RoundClose:6:7 CurlyOpen:8:9 CurlyClose:10:11 Dot:12:13 Arrow:14:16 PlusPlus:17:19 MinusMinus:20:22 And:23:24 Star:25:26 Plus:27:28 Minus:29:30 Tilde:31:32 Bang:33:34 Slash:35:36 Percent:37:38 ShiftLeft:39:41 ShiftRight:42:44 Less:45:46 Greater:47:48 LessEq:49:51 GreaterEq:52:54 EqEq:55:57 BangEq:58:60 Caret:61:62 Bar:63:64 AndAnd:65:67 BarBar:68:70 Question:71:72 Colon:73:74 Semicolon:75:76 Ellipsis:77:80 Assign:81:82 StarAssign:83:85 SlashAssign:86:88 PercentAssign:89:91 PlusAssign:92:94 MinusAssign:95:97 ShiftLeftAssign:98:101 ShiftRightAssign:102:105 AndAssign:106:108 CaretAssign:109:111 BarAssign:112:114 Comma:115:116 .:116:116"),
+    (
+        "[ ] ( ) { } . -> ++ -- & * + - ~ ! / % << >> < > <= >= == != ^ | && || ? : ; ... = *= /= %= += -= <<= >>= &= ^= |= ,",
+        "SquareOpen:0:1 SquareClose:2:3 RoundOpen:4:5 RoundClose:6:7 CurlyOpen:8:9 CurlyClose:10:11 Dot:12:13 Arrow:14:16 PlusPlus:17:19 MinusMinus:20:22 And:23:24 Star:25:26 Plus:27:28 Minus:29:30 Tilde:31:32 Bang:33:34 Slash:35:36 Percent:37:38 ShiftLeft:39:41 ShiftRight:42:44 Less:45:46 Greater:47:48 LessEq:49:51 GreaterEq:52:54 EqEq:55:57 BangEq:58:60 Caret:61:62 Bar:63:64 AndAnd:65:67 BarBar:68:70 Question:71:72 Colon:73:74 Semicolon:75:76 Ellipsis:77:80 Assign:81:82 StarAssign:83:85 SlashAssign:86:88 PercentAssign:89:91 PlusAssign:92:94 MinusAssign:95:97 ShiftLeftAssign:98:101 ShiftRightAssign:102:105 AndAssign:106:108 CaretAssign:109:111 BarAssign:112:114 Comma:115:116 .:116:116",
+    ),
     ("a+++b", "a:0:1 PlusPlus:1:3 Plus:3:4 b:4:5 .:5:5"),
     ("->-=--", "Arrow:0:2 MinusAssign:2:4 MinusMinus:4:6 .:6:6"),
     ("<<=>>=", "ShiftLeftAssign:0:3 ShiftRightAssign:3:6 .:6:6"),
@@ -125,11 +128,17 @@ const JOINS: [(&str, &str); 30] = [
 ];
 
 const DIRECTIVE_LINES: [(&str, &str); 12] = [
-    ("#pragma omp\nx", "#:0:1 pragma:1:7 omp:8:11 $:11:11 x:12:13 .:13:13"),
+    (
+        "#pragma omp\nx",
+        "#:0:1 pragma:1:7 omp:8:11 $:11:11 x:12:13 .:13:13",
+    ),
     ("a #", "BadByte 2"),
     ("##", "BadByte 1"),
     ("a\n#", "a:0:1 #:2:3 $:3:3 .:3:3"),
-    ("#define N \\\r\n 3\r\nx", "#:0:1 define:1:7 N:8:9 3:14:15 $:16:16 x:17:18 .:18:18"),
+    (
+        "#define N \\\r\n 3\r\nx",
+        "#:0:1 define:1:7 N:8:9 3:14:15 $:16:16 x:17:18 .:18:18",
+    ),
     (" /* c\n */ #x", "#:10:11 x:11:12 $:12:12 .:12:12"),
     ("a /*\n*/ #", "BadByte 8"),
     ("x \\\n#", "BadByte 4"),
@@ -143,7 +152,11 @@ const DIRECTIVE_LINES: [(&str, &str); 12] = [
 fn show_token(shown: &mut String, token: &Token) -> Result<(), AllocError> {
     match &token.kind {
         TokenKind::Word(name) => show_name(shown, name)?,
-        TokenKind::Number { value, ty, plain_zero } => {
+        TokenKind::Number {
+            value,
+            ty,
+            plain_zero,
+        } => {
             write!(shown, "{value}")?;
             if *plain_zero {
                 shown.push('z')?;
@@ -262,7 +275,17 @@ fn map_whole(alloc: Global, text: &[u8]) -> Result<LineMap, AllocError>
 #[test]
 fn a_map_of_lines_tells_places_as_the_whole_text_does(rt: HostRuntime) -> Result<(), Fail> {
     let text = b"ab\n\ncd\r\n";
-    let places = [(1, 1), (1, 2), (1, 3), (2, 1), (3, 1), (3, 2), (3, 3), (3, 4), (4, 1)];
+    let places = [
+        (1, 1),
+        (1, 2),
+        (1, 3),
+        (2, 1),
+        (3, 1),
+        (3, 2),
+        (3, 3),
+        (3, 4),
+        (4, 1),
+    ];
     let whole = map_whole(rt.alloc(), text)?;
     let single = map_bytes(rt.alloc(), text)?;
     for (i, want) in places.iter().enumerate() {

@@ -8,10 +8,10 @@ pub returns-clause-cut : goal.returns-clause-cut
 returns-clause-cut c = λ bytes h.
     let m = c.self.inside.machine in
     found_cut (record { count = c.self.inside.count; state = state_of m; tokens = m.tokens.0 }) bytes m.tokens.0 m.tokens.1
-        (subst (λ l. StandsFor l bytes) (sym c.self.view_is) h) c.self.invariant.0 refl (λ found. found.items) c.end.result c.end.ensures.ok
+    (subst (λ l. StandsFor l bytes) (sym c.self.view_is) h) c.self.invariant.0 refl (λ found. found.items) c.end.result c.end.ensures.ok
 
 pub returns-clause-fault : goal.returns-clause-fault
 returns-clause-fault c = λ bytes h.
     let m = c.self.inside.machine in
     found_fault (record { count = c.self.inside.count; state = state_of m; tokens = m.tokens.0 }) bytes m.tokens.0 m.tokens.1
-        (subst (λ l. StandsFor l bytes) (sym c.self.view_is) h) c.self.invariant.0 refl c.end.result c.end.ensures.fault
+    (subst (λ l. StandsFor l bytes) (sym c.self.view_is) h) c.self.invariant.0 refl c.end.result c.end.ensures.fault

@@ -22,5 +22,5 @@ pub returns-in_ok-push_token-in-TwoDots-2-clause-ok : goal.returns-in_ok-push_to
 returns-in_ok-push_token-in-TwoDots-2-clause-ok c =
     let m = c.args.self.now in
     closed_pair _ _ m.tokens.1 _ m.piece.line _ _ _ c.in-TwoDots.second c.args.at c.in_ok-push_token-in-TwoDots.ensures.ok c.in_ok-push_token-in-TwoDots-2.ensures.ok
-        c.with_token-in-TwoDots.ensures c.with_token-in-TwoDots-2.ensures ∙
+    c.with_token-in-TwoDots.ensures c.with_token-in-TwoDots-2.ensures ∙
     ap (after m.tokens.1) (mode_ends m _ c.args.at c.in-TwoDots.is)
