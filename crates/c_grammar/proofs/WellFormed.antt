@@ -1,7 +1,7 @@
 -- Sound symbols spell well-formed programs.
 use Rattle.std.proofs.Common.{◌≡◌, ℕ, Bool, false, List, [], ◌∷◌, Option, Some, None, map, refl, IsTrue}
 use Rattle.std.specs.Option.{option_map}
-use Rattle.c_tree.specs.Placed.{Expr, Exprs, no_exprs, more_exprs, Target, Stmt, Stmts, MaybeStmt, a_stmt, Head, Param, Top, define, extern_, function}
+use Rattle.c_tree.specs.Placed.{Expr, Exprs, no_exprs, more_exprs, Target, Stmt, Stmts, MaybeStmt, a_stmt, Head, Param, Top, define, extern_, function, Program}
 use Rattle.c_tree.specs.declared.tree.Span.{Span}
 use Rattle.c_tree.specs.declared.tree.Ty.{Ty}
 use Rattle.c_tree.specs.Constants.{IsHeld}
@@ -11,9 +11,12 @@ use Rattle.c_lexer.specs.declared.words.Keyword.{Keyword}
 use Rattle.c_tree.specs.declared.tree.Port.TheVariants as port
 use Rattle.pragma_grammar.specs.Symbols.{Symbol, start_of, spanning}
 use Rattle.pragma_grammar.specs.Sound.{AreSound}
+use Rattle.c_lexer.specs.Cut.{Cut}
+use Rattle.c_lexer.specs.declared.token.Token.{Token}
+use Rattle.pragma_grammar.proofs.Lexed.{sound_cut}
 use Rattle.pragma_grammar.proofs.WellFormed.{after_type_name, sound_phrase, sound_subscripts, sound_list, sound_directive}
 use Rattle.c_grammar.specs.Statements.{TargetPhrase, targets, Simple, assignment, step_after, step_before, Declarator, unset, valued, read_in, Declarators, last_declarator, next_declarator, Init, no_init, declares, begins, Test, no_test, tests, Next, no_next, goes_on, HeadPhrase, three_parts, Plain, nothing, simply, reads, prints, calls, calls_with, decides, chooses, repeats, does, loops, breaks, continues, transforms, Body, braced, lone, Units, over, next, inner, declared}
-use Rattle.c_grammar.specs.Programs.{Signed, positive, negative, Value, bare, in_parens, MayStand, absent, present, MayBeNamed, unnamed, named, Global, plain, valued as with_value, Started, started, Globals, last_global, next_global, Params, last_param, next_param, Parameters, none, some, MayReturn, goes_off, returns, Tops, the_main, defines, printer, reader, variables, a_function, tops_of, SpellsSymbols, spells}
+use Rattle.c_grammar.specs.Programs.{Signed, positive, negative, Value, bare, in_parens, MayStand, absent, present, MayBeNamed, unnamed, named, Global, plain, valued as with_value, Started, started, Globals, last_global, next_global, Params, last_param, next_param, Parameters, none, some, MayReturn, goes_off, returns, Tops, the_main, defines, printer, reader, variables, a_function, tops_of, SpellsSymbols, spells, Spells}
 
 -- ---- statements
 
@@ -167,3 +170,7 @@ sound_tops (a_function {x = x} {ps = ps} {ss = ss} {tops = tops} {a = at} {c = c
 -- what sound symbols spell is well formed
 pub sound_symbols : {tops : List Started} {ts : List Symbol} → SpellsSymbols tops ts → AreSound ts → WellFormed (forget_program (tops_of tops))
 sound_symbols (spells h) s = sound_tops h s
+
+-- what the tokens of a text spell is well formed
+pub texts_are_well_formed : (text : List ℕ) (tokens : List Token) (program : Program) → Cut text tokens → Spells program tokens → WellFormed (forget_program program)
+texts_are_well_formed text tokens program cut spelled = rw spelled.same (sound_symbols spelled.spelled (sound_cut cut))
