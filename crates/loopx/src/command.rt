@@ -4,7 +4,6 @@ ghost use Rattle.std.specs.Prelude.{◌≡◌, ℕ, ℤ, IfSome, IfNone, IfOk, I
 ghost use Rattle.loopx.specs.Words.{IsBound, IsNumber, AreNumbers, AllNumbers, AskForNothing};
 ghost use Rattle.loopx.specs.Commands.{AsksFor};
 
-
 use std::alloc::{AllocError, Global};
 
 /// What the words ask for.
