@@ -3,6 +3,7 @@
 #![tactic(auto)]
 
 pub mod admitted;
+pub mod canonical;
 pub mod examples;
 pub mod nest;
 pub mod rules;
