@@ -1,2 +1,4 @@
+pub mod Clauses
 pub mod Constants
+pub mod Statements
 pub mod Targets

@@ -7,3 +7,4 @@ pub mod canonical;
 pub mod examples;
 pub mod nest;
 pub mod rules;
+pub mod tall_height;
