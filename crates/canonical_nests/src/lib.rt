@@ -5,5 +5,7 @@
 pub mod admitted;
 pub mod canonical;
 pub mod examples;
+pub mod first_directive;
 pub mod nest;
 pub mod rules;
+pub mod tall_height;
