@@ -23,31 +23,31 @@ use Rattle.c_grammar.specs.Programs.{Signed, positive, negative, Value, bare, in
 sound_target : {x : Target} {w : Span} {ts us : List Symbol} → TargetPhrase x w ts us → AreSound ts → WellFormedTarget (forget_target x) × AreSound us
 sound_target (targets h) s = let a = sound_subscripts h s.1 in ((s.0, a.0), a.1)
 
-sound_simple : {to : ℕ} {a : Stmt} {z : Span} {ts us : List Symbol} → Simple to a z ts us → AreSound ts → WellFormedStmt (forget_stmt a) × AreSound us
-sound_simple (assignment h is k) s = let a = sound_target h s in let b = sound_phrase k a.1.1 in ((a.0, b.0), b.1)
-sound_simple (step_after h is) s = let a = sound_target h s in (a.0, a.1.1)
-sound_simple (step_before is h) s = sound_target h s.1
+sound_simple : {a : ℕ → Stmt} {z : Span} {ts us : List Symbol} → Simple a z ts us → AreSound ts → (to : ℕ) → WellFormedStmt (forget_stmt (a to)) × AreSound us
+sound_simple (assignment h is k) s to = let a = sound_target h s in let b = sound_phrase k a.1.1 in ((a.0, b.0), b.1)
+sound_simple (step_after h is) s to = let a = sound_target h s in (a.0, a.1.1)
+sound_simple (step_before is h) s to = sound_target h s.1
 
-simple_may_end : {to : ℕ} {a : Stmt} {z : Span} {ts us : List Symbol} → Simple to a z ts us → MayEnd (forget_maybe (a_stmt a)) × MayBegin (forget_maybe (a_stmt a))
-simple_may_end (assignment h is k) = (tt, tt)
-simple_may_end (step_after h is) = (tt, tt)
-simple_may_end (step_before is h) = (tt, tt)
+simple_may_end : {a : ℕ → Stmt} {z : Span} {ts us : List Symbol} → Simple a z ts us → (to : ℕ) → MayEnd (forget_maybe (a_stmt (a to))) × MayBegin (forget_maybe (a_stmt (a to)))
+simple_may_end (assignment h is k) to = (tt, tt)
+simple_may_end (step_after h is) to = (tt, tt)
+simple_may_end (step_before is h) to = (tt, tt)
 
-sound_declarator : {ty : Ty} {from to : ℕ} {ss rest : Stmts} {z : Span} {ts us : List Symbol} → Declarator ty from to ss rest z ts us → AreSound ts →
-    WellFormedStmts (forget_stmts rest) → WellFormedStmts (forget_stmts ss)
-sound_declarator unset s are = ((s.0, tt), are)
-sound_declarator (valued h) s are = ((s.0, (sound_phrase h s.1.1).0), are)
-sound_declarator read_in s are = ((s.0, tt), ((s.0, tt), are))
+sound_declarator : {ty : Ty} {from : ℕ} {ss : ℕ → Stmts → Stmts} {z : Span} {ts us : List Symbol} → Declarator ty from ss z ts us → AreSound ts →
+    (to : ℕ) (rest : Stmts) → WellFormedStmts (forget_stmts rest) → WellFormedStmts (forget_stmts (ss to rest))
+sound_declarator unset s to rest are = ((s.0, tt), are)
+sound_declarator (valued h) s to rest are = ((s.0, (sound_phrase h s.1.1).0), are)
+sound_declarator read_in s to rest are = ((s.0, tt), ((s.0, tt), are))
 
-after_declarator : {ty : Ty} {from to : ℕ} {ss rest : Stmts} {z : Span} {ts us : List Symbol} → Declarator ty from to ss rest z ts us → AreSound ts → AreSound us
+after_declarator : {ty : Ty} {from : ℕ} {ss : ℕ → Stmts → Stmts} {z : Span} {ts us : List Symbol} → Declarator ty from ss z ts us → AreSound ts → AreSound us
 after_declarator unset s = s.1
 after_declarator (valued h) s = (sound_phrase h s.1.1).1
 after_declarator read_in s = s.1.1.1.1.1
 
 sound_declarators : {ty : Ty} {from : ℕ} {ss rest : Stmts} {ts us : List Symbol} → Declarators ty from ss rest ts us → AreSound ts →
     WellFormedStmts (forget_stmts rest) → WellFormedStmts (forget_stmts ss)
-sound_declarators (last_declarator h) s are = sound_declarator h s are
-sound_declarators (next_declarator h k) s are = sound_declarator h s (sound_declarators k (after_declarator h s).1 are)
+sound_declarators (last_declarator h) s are = sound_declarator h s _ _ are
+sound_declarators (next_declarator h k) s are = sound_declarator h s _ _ (sound_declarators k (after_declarator h s).1 are)
 
 after_declarators : {ty : Ty} {from : ℕ} {ss rest : Stmts} {ts us : List Symbol} → Declarators ty from ss rest ts us → AreSound ts → AreSound us
 after_declarators (last_declarator h) s = (after_declarator h s).1
@@ -56,7 +56,7 @@ after_declarators (next_declarator h k) s = after_declarators k (after_declarato
 sound_init : {i : MaybeStmt} {ts us : List Symbol} → Init i ts us → AreSound ts → MayBegin (forget_maybe i) × WellFormedPart (forget_maybe i) × AreSound us
 sound_init no_init s = (tt, tt, s)
 sound_init (declares t h) s = let a = after_type_name t s in let b = sound_phrase h a.1.1 in (tt, (a.0, b.0), b.1)
-sound_init (begins h) s = let a = sound_simple h s in ((simple_may_end h).1, a.0, a.1)
+sound_init (begins {z = z} h) s = let a = sound_simple h s z.end in ((simple_may_end h z.end).1, a.0, a.1)
 
 sound_test : {e : Option Expr} {ts us : List Symbol} → Test e ts us → AreSound ts → WellFormedOption (option_map forget_expr e) × AreSound us
 sound_test no_test s = (tt, s)
@@ -64,7 +64,7 @@ sound_test (tests h) s = sound_phrase h s
 
 sound_next : {i : MaybeStmt} {ts us : List Symbol} → Next i ts us → AreSound ts → MayEnd (forget_maybe i) × WellFormedPart (forget_maybe i) × AreSound us
 sound_next no_next s = (tt, tt, s)
-sound_next (goes_on h) s = let a = sound_simple h s in ((simple_may_end h).0, a.0, a.1)
+sound_next (goes_on {z = z} h) s = let a = sound_simple h s z.end in ((simple_may_end h z.end).0, a.0, a.1)
 
 sound_head : {h : Head} {ts us : List Symbol} → HeadPhrase h ts us → AreSound ts → WellFormedHead (forget_head h) × AreSound us
 sound_head (three_parts h i j) s =
@@ -73,8 +73,8 @@ sound_head (three_parts h i j) s =
 mutual
   sound_plain : {a : Stmt} {z : Span} {ts us : List Symbol} → Plain a z ts us → AreSound ts → WellFormedStmt (forget_stmt a) × AreSound us
   sound_plain nothing s = (tt, s.1)
-  sound_plain (simply h) s = let a = sound_simple h s in (a.0, a.1.1)
-  sound_plain (reads h) s = let a = sound_target h s in (a.0, a.1.1.1.1.1.1)
+  sound_plain (simply h) s = let a = sound_simple h s _ in (a.0, a.1.1)
+  sound_plain (reads is h) s = let a = sound_target h s in (a.0, a.1.1.1.1.1.1)
   sound_plain (prints h) s = let a = sound_phrase h s.1.1 in (a.0, a.1.1.1)
   sound_plain calls s = ((s.0, tt), s.1.1.1.1)
   sound_plain (calls_with h) s = let a = sound_list h s.1.1 in ((s.0, a.1), a.2.1.1)
