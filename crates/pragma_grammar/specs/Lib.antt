@@ -6,3 +6,4 @@ pub mod Reading
 pub mod Deep
 pub mod Machine
 pub mod Trees
+pub mod Terminals

@@ -3,4 +3,5 @@
 
 mod open_phrase;
 pub mod phrase;
+pub mod terminal;
 pub mod words;
