@@ -2,3 +2,4 @@ pub mod Tails
 pub mod Follows
 pub mod Steps
 pub mod Ends
+pub mod DirectiveFollows
