@@ -99,7 +99,7 @@ commas (o ∷ k) = false
 
 -- the `apply` clause is closed
 abbrev pub Closes : Owes → Bool → Open → Listing Items
-Closes f b o is z us = Rest f b (part_with o.part (apply o.modifier o.indices is) (spanning o.at z)) z us
+Closes f b o is z us = Rest f b (part_with o.part (apply o.modifier o.indices is) (spanning o.at z)) (spanning o.at z) us
 
 -- a name stands first
 pub data TakesName (f : Name → Span → List Symbol → Type 0) : List Symbol → Type 0 where
@@ -122,9 +122,6 @@ module _ (P : Type 0) (F : P → Owes) where
   abbrev pub More : P → List Open → Part → Span → List Symbol → Type 0
   More p k part z ts = Rest (Fills p k) (commas k) part z ts
 
-  abbrev pub Ends : P → Span → Part → List Open → (Span → ClauseKind) → Span → List Symbol → Type 0
-  Ends p a part k kind z us = More p k (part_with part (kind z) (spanning a z)) z us
-
   abbrev pub Opens : P → Span → Part → List Open → Option Name → Exprs → List Symbol → Type 0
   Opens p a part k m es ts = ItemsRest (Closes (Fills p k) (commas k) (machine.new_open trees a part m es)) no_items ts
 
@@ -133,22 +130,22 @@ module _ (P : Type 0) (F : P → Owes) where
 
   -- a list of expressions is closed
   abbrev pub ListEnds : P → Lists → Span → Part → List Open → Listing Exprs
-  ListEnds p machine.sizes a part k es z us = More p k (part_with part (sizes es) (spanning a z)) z us
-  ListEnds p machine.permutation a part k es z us = More p k (part_with part (permutation es) (spanning a z)) z us
+  ListEnds p machine.sizes a part k es z us = More p k (part_with part (sizes es) (spanning a z)) (spanning a z) us
+  ListEnds p machine.permutation a part k es z us = More p k (part_with part (permutation es) (spanning a z)) (spanning a z) us
   ListEnds p (machine.indices m) a part k es z us = Indexed p m es a part k us
 
   abbrev pub CountsEnd : P → Span → Part → List Open → Listing (List Count)
-  CountsEnd p a part k cs z us = More p k (part_with part (counts cs) (spanning a z)) z us
+  CountsEnd p a part k cs z us = More p k (part_with part (counts cs) (spanning a z)) (spanning a z) us
 
   abbrev pub RangeEnds : P → Expr → Expr → Span → Part → List Open → List Symbol → Type 0
-  RangeEnds p e f a part k ts = Takes RoundClose (λ z us. More p k (part_with part (looprange e f) (spanning a z)) z us) ts
+  RangeEnds p e f a part k ts = Takes RoundClose (λ z us. More p k (part_with part (looprange e f) (spanning a z)) (spanning a z) us) ts
 
   abbrev pub Has : P → Held → Span → Part → List Open → List Symbol → Type 0
   Has p (elements l es) a part k ts = AfterExpr (ListEnds p l a part k) es ts
   Has p (counted cs) a part k ts = AfterCount (CountsEnd p a part k) cs ts
   Has p (first e) a part k ts = Takes Comma (λ z us. Reads 0 (λ f w vs. RangeEnds p e f a part k vs) us) ts
   Has p (range e f) a part k ts = RangeEnds p e f a part k ts
-  Has p (factored e) a part k ts = Takes RoundClose (λ z us. More p k (part_with part (partial (Some e)) (spanning a z)) z us) ts
+  Has p (factored e) a part k ts = Takes RoundClose (λ z us. More p k (part_with part (partial (Some e)) (spanning a z)) (spanning a z) us) ts
 
   -- `omp_fill` stands for an expression among counts
   abbrev pub Filled : P → Asked → Span → Part → List Open → List Symbol → Type 0

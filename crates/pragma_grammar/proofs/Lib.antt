@@ -3,3 +3,4 @@ pub mod Follows
 pub mod Steps
 pub mod Ends
 pub mod DirectiveFollows
+pub mod DirectiveSteps

@@ -75,8 +75,8 @@ pub data Held (A : Algebra) : Type 0 where
   range : A.Expr → A.Expr → Held A
   factored : A.Expr → Held A
 
--- What stands between two symbols. In `clauses` the directive has been read through a token at the span, and in `comma`
--- through a comma after it. Where a clause is being read, its word stands at the span.
+-- What stands between two symbols. In `clauses` the directive has been read through its name or a clause at the span, and in
+-- `comma` through a comma after it. Where a clause is being read, its word stands at the span.
 pub data State (A : Algebra) : Type 0 where
   start : State A
   clauses : Part A → Span → List (Open A) → State A
@@ -115,13 +115,13 @@ module _ (A : Algebra) where
   abbrev pub made : Part A → Span → A.Directive
   made part z = A.directive part.kind part.clauses (spanning part.at z)
 
-  -- the state after a clause, whose last token stands at `z`
+  -- the state after a clause, which stands at `w`
   abbrev pub added : Part A → A.Clauses → Span → List (Open A) → Move A
-  added part cs z k = leads (clauses (with_clauses part cs) z k)
+  added part cs w k = leads (clauses (with_clauses part cs) w k)
 
   -- the innermost `apply` is closed at `z`
   abbrev pub close_apply : Open A → Span → List (Open A) → Move A
-  close_apply o z k = added o.part (A.add_apply o.part.clauses o.modifier o.indices o.items (spanning o.at z)) z k
+  close_apply o z k = added o.part (A.add_apply o.part.clauses o.modifier o.indices o.items (spanning o.at z)) (spanning o.at z) k
 
   -- the word of a clause
   abbrev pub word_read : ClauseWord → Span → Part A → List (Open A) → Move A
@@ -201,8 +201,8 @@ module _ (A : Algebra) where
   want_step asked a part k t = stuck
 
   abbrev pub end_list : Lists → A.Exprs → Span → Span → Part A → List (Open A) → Move A
-  end_list sizes es z a part k = added part (A.add_sizes part.clauses es (spanning a z)) z k
-  end_list permutation es z a part k = added part (A.add_permutation part.clauses es (spanning a z)) z k
+  end_list sizes es z a part k = added part (A.add_sizes part.clauses es (spanning a z)) (spanning a z) k
+  end_list permutation es z a part k = added part (A.add_permutation part.clauses es (spanning a z)) (spanning a z) k
   end_list (indices m) es z a part k = leads (indexed m es a part k)
 
   abbrev pub list_step : Lists → A.Exprs → Span → Part A → List (Open A) → Symbol → Move A
@@ -212,7 +212,7 @@ module _ (A : Algebra) where
 
   abbrev pub count_step : A.Counts → Span → Part A → List (Open A) → Symbol → Move A
   count_step cs a part k (punct Comma z) = leads (wanting (count cs) a part k)
-  count_step cs a part k (punct RoundClose z) = added part (A.add_counts part.clauses cs (spanning a z)) z k
+  count_step cs a part k (punct RoundClose z) = added part (A.add_counts part.clauses cs (spanning a z)) (spanning a z) k
   count_step cs a part k t = stuck
 
   abbrev pub first_step : A.Expr → Span → Part A → List (Open A) → Symbol → Move A
@@ -220,11 +220,11 @@ module _ (A : Algebra) where
   first_step e a part k t = stuck
 
   abbrev pub range_step : A.Expr → A.Expr → Span → Part A → List (Open A) → Symbol → Move A
-  range_step e f a part k (punct RoundClose z) = added part (A.add_range part.clauses e f (spanning a z)) z k
+  range_step e f a part k (punct RoundClose z) = added part (A.add_range part.clauses e f (spanning a z)) (spanning a z) k
   range_step e f a part k t = stuck
 
   abbrev pub factor_step : A.Expr → Span → Part A → List (Open A) → Symbol → Move A
-  factor_step e a part k (punct RoundClose z) = added part (A.add_factor part.clauses e (spanning a z)) z k
+  factor_step e a part k (punct RoundClose z) = added part (A.add_factor part.clauses e (spanning a z)) (spanning a z) k
   factor_step e a part k t = stuck
 
   abbrev pub have_step : Held A → Span → Part A → List (Open A) → Symbol → Move A
