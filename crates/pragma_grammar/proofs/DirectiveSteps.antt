@@ -17,7 +17,7 @@ use Rattle.pragma_grammar.specs.Directives.{ClausePhrase, sizes_clause, permutat
 use Rattle.pragma_grammar.specs.Reading.{EndsLine, ends_line}
 use Rattle.pragma_grammar.specs.DirectiveMachine as machine
 use Rattle.pragma_grammar.specs.DirectiveMachine.{element, count, range_first, range_count, factor, elements, counted, first, range, factored, Lists, leads, stuck}
-use Rattle.pragma_grammar.specs.DirectiveTrees.{add_item, add_count, trees, Part, Open, Asked, Held, State, Move, step}
+use Rattle.pragma_grammar.specs.DirectiveTrees.{add_item, add_count, trees, Part, Open, Asked, Held, State, Move, step, expects, wants_letter}
 use Rattle.pragma_grammar.proofs.Follows.{Reads, Takes, takes}
 use Rattle.pragma_grammar.proofs.DirectiveFollows.{Owes, Listing, part_with, Rest, OneMore, ItemsRest, AfterItem, Itemed, ListRest, AfterExpr, Elements, TakesFill, takes_fill, CountsRest, AfterCount, OneCount, commas, Closes, TakesName, takes_name, Starts, Fills, More, Opens, Indexed, ListEnds, CountsEnd, RangeEnds, Has, Filled, Letter, Wants, Modified, Applies, Completes, Moves, rest_none, rest_more, rest_comma, RestView, no_more, one_more, by_comma, view_rest, list_from, list_to, items_from, items_to, counts_from, counts_to}
 
@@ -361,21 +361,15 @@ module _ (P : Type 0) (F : P → Owes) (bounds : (p : P) (d : Directive) (ts : L
   start_to : (p : P) (t : Symbol) (ts : List Symbol) (d : Directive) (us : List Symbol) → DirectivePhrase true d (t ∷ ts) us → F p d us → Moves P F p (machine.start_step trees t) t ts
   start_to p t ts d us (directive_phrase {x = x} {a = a} q c) h = subst (λ g. Moves P F p (machine.begin_directive trees g a []) (name x a) ts) (sym q) (record { more = _; last = _; left = us; clauses = c; after = h })
 
-  -- where an expression is wanted and the symbol isn't `omp_fill` among counts, an expression stands there
-  abbrev pub Expects : State → Symbol → Type 0
-  Expects (machine.wanting (count cs) a part k) (keyword OmpFill z) = ⊥
-  Expects (machine.wanting asked a part k) t = Unit {0}
-  Expects s t = ⊥
-
   no_letter : (p : P) (cs : List Count) (z a : Span) (part : Part) (k : List Open) (ts : List Symbol) → Wants P F p (count cs) a part k (keyword OmpFill z ∷ ts) → Moves P F p (machine.want_step trees (count cs) a part k (keyword OmpFill z)) (keyword OmpFill z) ts
   no_letter p cs z a part k ts (inl h) = absurd (no_fill h.phrase)
   no_letter p cs z a part k ts (inr (takes_fill h)) = h
 
-  want_to : (p : P) (asked : Asked) (a : Span) (part : Part) (k : List Open) (t : Symbol) (ts : List Symbol) → (Expects (machine.wanting asked a part k) t → ⊥) → Wants P F p asked a part k (t ∷ ts) → Moves P F p (machine.want_step trees asked a part k t) t ts
+  want_to : (p : P) (asked : Asked) (a : Span) (part : Part) (k : List Open) (t : Symbol) (ts : List Symbol) → wants_letter asked t ≡ false → Wants P F p asked a part k (t ∷ ts) → Moves P F p (machine.want_step trees asked a part k t) t ts
   want_to p (count cs) a part k (keyword OmpFill z) ts n h = no_letter p cs z a part k ts h
-  want_to p asked a part k t ts n h = absurd (n tt)
+  want_to p asked a part k t ts n h = absurd (true_is_not n)
 
-  pub step_to : (p : P) (s : State) (t : Symbol) (ts : List Symbol) → (Expects s t → ⊥) → Completes P F p s (t ∷ ts) → Moves P F p (step s t) t ts
+  pub step_to : (p : P) (s : State) (t : Symbol) (ts : List Symbol) → expects s t ≡ false → Completes P F p s (t ∷ ts) → Moves P F p (step s t) t ts
   step_to p machine.start t ts n h = start_to p t ts h.whole h.left h.phrase h.after
   step_to p (machine.clauses part z k) t ts n h = clauses_to p part z k t ts h
   step_to p (machine.comma part) t ts n h = word_to p part [] t ts h
@@ -391,7 +385,7 @@ module _ (P : Type 0) (F : P → Owes) (bounds : (p : P) (d : Directive) (ts : L
   step_to p (machine.item_read o k) t ts n h = item_end_to p o k t ts h
 
   -- the expression that stands where one is wanted
-  pub letter_to : (p : P) (asked : Asked) (a : Span) (part : Part) (k : List Open) (t : Symbol) (ts : List Symbol) → Expects (machine.wanting asked a part k) t → Wants P F p asked a part k (t ∷ ts) → Letter P F p asked a part k (t ∷ ts)
+  pub letter_to : (p : P) (asked : Asked) (a : Span) (part : Part) (k : List Open) (t : Symbol) (ts : List Symbol) → wants_letter asked t ≡ true → Wants P F p asked a part k (t ∷ ts) → Letter P F p asked a part k (t ∷ ts)
   letter_to p asked a part k t ts n (inl h) = h
-  letter_to p (count cs) a part k t ts n (inr (takes_fill h)) = absurd n
+  letter_to p (count cs) a part k t ts n (inr (takes_fill h)) = absurd (true_is_not (sym n))
   letter_to p asked a part k t ts n (inr h) = absurd h

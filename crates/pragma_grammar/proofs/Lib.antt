@@ -4,3 +4,5 @@ pub mod Steps
 pub mod Ends
 pub mod DirectiveFollows
 pub mod DirectiveSteps
+pub mod Pieces
+pub mod DirectiveEnds

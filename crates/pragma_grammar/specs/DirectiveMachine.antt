@@ -264,6 +264,15 @@ module _ (A : Algebra) where
   first_name_step x c a part k (punct RoundOpen b) = leads (wanting (element (indices x) A.no_exprs) a part k)
   first_name_step x c a part k t = after_name (named_item (is_nothing x) (kind_of x) c (new_open a part None A.no_exprs) k) t
 
+  -- is an expression read where one is wanted, and not `omp_fill`?
+  abbrev pub wants_letter : Asked A → Symbol → Bool
+  wants_letter (count cs) (keyword OmpFill z) = false
+  wants_letter asked t = true
+
+  abbrev pub expects : State A → Symbol → Bool
+  expects (wanting asked a part k) t = wants_letter asked t
+  expects s t = false
+
   abbrev pub step : State A → Symbol → Move A
   step start t = start_step t
   step (clauses part z k) t = after_clause part z k t

@@ -1,5 +1,5 @@
 -- The automaton for directives over the trees themselves.
-use Rattle.std.specs.Prelude.{List, [], ◌∷◌, Option, Some, None}
+use Rattle.std.specs.Prelude.{Bool, List, [], ◌∷◌, Option, Some, None}
 use Rattle.c_tree.specs.Placed.{Expr, Exprs, no_exprs, Count, fill, given, Directive, directive, Clauses, no_clauses, more_clauses, clause, ClauseKind, sizes, permutation, counts, looprange, full, partial, apply, Items, no_items, more_items, Item, nothing, acts}
 use Rattle.c_tree.specs.declared.tree.Span.{Span}
 use Rattle.pragma_grammar.specs.Symbols.{Symbol}
@@ -77,3 +77,9 @@ step s t = machine.step trees s t
 
 abbrev pub take : Asked → Expr → Held
 take asked e = machine.take trees asked e
+
+abbrev pub wants_letter : Asked → Symbol → Bool
+wants_letter asked t = machine.wants_letter trees asked t
+
+abbrev pub expects : State → Symbol → Bool
+expects s t = machine.expects trees s t
