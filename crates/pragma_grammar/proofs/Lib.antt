@@ -6,3 +6,5 @@ pub mod DirectiveFollows
 pub mod DirectiveSteps
 pub mod Pieces
 pub mod DirectiveEnds
+pub mod DirectiveLetters
+pub mod DirectiveReached
