@@ -4,3 +4,9 @@ pub mod Steps
 pub mod Ends
 pub mod WellFormed
 pub mod Lexed
+pub mod DirectiveFollows
+pub mod DirectiveSteps
+pub mod Pieces
+pub mod DirectiveEnds
+pub mod DirectiveLetters
+pub mod DirectiveReached

@@ -8,3 +8,5 @@ pub mod Deep
 pub mod Machine
 pub mod Trees
 pub mod Terminals
+pub mod DirectiveMachine
+pub mod DirectiveTrees
