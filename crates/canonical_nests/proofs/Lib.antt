@@ -1,5 +1,7 @@
+pub mod Applied
 pub mod Clauses
 pub mod Constants
+pub mod DepthLists
 pub mod FirstDirective
 pub mod Statements
 pub mod Targets

@@ -4,8 +4,10 @@
 
 pub mod admitted;
 pub mod canonical;
+pub mod depths;
 pub mod examples;
 pub mod first_directive;
 pub mod nest;
+pub mod plan;
 pub mod rules;
 pub mod tall_height;
