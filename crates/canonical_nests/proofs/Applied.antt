@@ -22,7 +22,7 @@ position_is (t.unroll_partial k) p f ks = refl
 seen_item_roll : (position : ℕ) (plan : Plan) → seen_item (roll-Applied (record { position = position; plan = plan })) ≡ (position, seen_plan plan)
 seen_item_roll position plan = fold-roll-Applied (ℕ × PlacedPlan) PlacedPlan applied_layer plan_layer (record { position = position; plan = plan })
 
-seen_item_out : (x : Applied) → seen_item x ≡ ((out-Applied x).position, seen_plan (out-Applied x).plan)
+pub seen_item_out : (x : Applied) → seen_item x ≡ ((out-Applied x).position, seen_plan (out-Applied x).plan)
 seen_item_out x = ap seen_item (sym (roll-out-Applied x)) ∙ seen_item_roll (out-Applied x).position (out-Applied x).plan
 
 -- the next item, and then the rest

@@ -42,3 +42,7 @@ part_of _ p = 0
 abbrev pub loops_above : t.Transformation → ℕ → ℕ
 loops_above (t.split cs) p = 0
 loops_above _ p = p - 1
+
+-- the transformation of a plan
+abbrev pub own : p.PlacedPlan → t.Transformation
+own (p.plan c at w) = c

@@ -24,8 +24,9 @@ pub fn takes(c: &Transformation) -> u64
     }
 }
 
+/// Whether each depth is at least this one.
 #[tactic(auto, using(crate::proofs::DepthLists::depth_lists))]
-fn all_at_least(least: u64, depths: &[u64]) -> bool
+pub fn all_at_least(least: u64, depths: &[u64]) -> bool
     ensures { result ≡ need.all_at_least least depths.now }
 {
     'each: for depth in depths {
@@ -44,7 +45,7 @@ fn first_depth(depths: &[u64]) -> u64
 }
 
 /// The sum. One past 64 bits counts as want of memory: no text that a memory holds asks for as many loops.
-fn sum(a: u64, b: u64) -> Result<u64, AllocError>
+pub fn sum(a: u64, b: u64) -> Result<u64, AllocError>
     ensures { IfOk result (λ c. c ≡ a + b) }
 {
     match a.checked_add(b) {
@@ -53,7 +54,8 @@ fn sum(a: u64, b: u64) -> Result<u64, AllocError>
     }
 }
 
-fn only(alloc: Global, depth: u64) -> Result<Vec<u64>, AllocError>
+/// A list of one depth.
+pub fn only(alloc: Global, depth: u64) -> Result<Vec<u64>, AllocError>
     ensures { IfOk result (λ depths. depths.items ≡ depth ∷ []) }
 {
     let mut depths = Vec::new(alloc);

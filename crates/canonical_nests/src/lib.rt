@@ -7,6 +7,7 @@ pub mod canonical;
 pub mod depths;
 pub mod examples;
 pub mod first_directive;
+pub mod need;
 pub mod nest;
 pub mod plan;
 pub mod rules;
