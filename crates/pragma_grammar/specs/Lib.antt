@@ -7,3 +7,5 @@ pub mod Deep
 pub mod Machine
 pub mod Trees
 pub mod Terminals
+pub mod Kept
+pub mod Stands

@@ -23,6 +23,12 @@ use Rattle.pragma_grammar.specs.Expressions.{binary_of}
 use Rattle.pragma_grammar.specs.Directives.{DirectivePhrase}
 use Rattle.pragma_grammar.specs.Deep.{deep_expr, deep_directive}
 
+-- the tokens of a text end with End
+abbrev pub EndsText : List Token → Type 0
+EndsText [] = ⊥
+EndsText (t ∷ []) = t.kind ≡ k.End
+EndsText (t ∷ u ∷ ts) = EndsText (u ∷ ts)
+
 -- ---- the kind of a fault
 
 -- a token stands on a `#` line where the end of that line is the first to come of a `#` and an end of such a line
