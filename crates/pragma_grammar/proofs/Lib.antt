@@ -11,3 +11,4 @@ pub mod Places
 pub mod Stopping
 pub mod Wholes
 pub mod ReadExpr
+pub mod LastToken

@@ -1,7 +1,7 @@
 -- From what the automaton keeps to what `read_expr` answers.
 use Rattle.std.proofs.Common.{◌≡◌, ℕ, zero, suc, ◌+◌, ◌-◌, ◌<◌, ◌≤◌, Bool, true, false, List, [], ◌∷◌, ◌++◌, length, drop, Option, Some, None, refl, sym, ap, ◌∙◌, subst, arith, lit≤, length-append, length-drop, drop-drop, drop_at}
 use Rattle.std.proofs.lemmas.Bool.{leb-true, leb-false}
-use Rattle.std.specs.Prelude.{slice_get, nat_le, cond}
+use Rattle.std.specs.Prelude.{slice_get, nat_le, cond, Ok, Err}
 use Rattle.c_tree.specs.declared.tree.Expr as code
 use Rattle.c_tree.specs.Placed.{Expr, num, read, item, un, bin, cond as choice, cast, Exprs}
 use Rattle.c_tree.specs.PlacedOf.{placed_expr}
@@ -12,7 +12,9 @@ use Rattle.c_tree.specs.declared.tree.Span.{Span}
 use Rattle.c_tree.proofs.Forgotten.Exprs.{bare_expr_is}
 use Rattle.c_lexer.specs.declared.token.Token.{Token}
 use Rattle.c_lexer.specs.declared.token.TokenKind.TheVariants as kind
-use Rattle.pragma_grammar.specs.declared.phrase.ParseKind.{ParseKind}
+use Rattle.pragma_grammar.specs.declared.phrase.ParseFault.{ParseFault}
+use Rattle.pragma_grammar.specs.declared.phrase.ParseFault.TheVariants.{At}
+use Rattle.pragma_grammar.specs.declared.phrase.Phrase.TheVariants.{Whole, Deep}
 use Rattle.pragma_grammar.specs.Symbols.{Symbol, symbol, symbols, end, place, spanning}
 use Rattle.pragma_grammar.proofs.Terminals.{symbol_place}
 use Rattle.pragma_grammar.specs.Machine as machine
@@ -21,7 +23,7 @@ use Rattle.pragma_grammar.specs.Trees.{trees, State, Move, step}
 use Rattle.pragma_grammar.specs.Deep.{first, too_deep, deep_expr, deep_exprs}
 use Rattle.pragma_grammar.specs.Kept.{Kept, kept, deep, KeptList, keeps, kept_or, keep, keep_list}
 use Rattle.pragma_grammar.specs.Stands as stands
-use Rattle.pragma_grammar.specs.Reading.{EndsText, blamed_as, IsWhole, IsPhrase, IsFault, ExprFault, SpelledExpr, Stops, between, span_or_none}
+use Rattle.pragma_grammar.specs.Reading.{blamed_as, IsWhole, IsPhrase, IsExprRead, SpelledExpr, Stops, between, span_or_none}
 use Rattle.pragma_grammar.proofs.Maps.{map_state, map_move, step_map}
 use Rattle.pragma_grammar.proofs.Keeping.{keeping}
 use Rattle.pragma_grammar.proofs.Wholes.{Outcome, after, whole, fault, unfinished, outcome, found, Found, blamed, Blamed}
@@ -174,3 +176,37 @@ here tokens at next e w l m q =
     let r : drop next tokens ≡ f.token ∷ f.rest = drop_pair tokens at next f.before (f.token ∷ f.rest) f.parts e1 in
     let whole_here : IsWhole (Expr × Span) SpelledExpr Stops (symbols (drop at tokens)) (e, w) (symbols (f.token ∷ f.rest)) = record { phrase = f.phrase; ends = f.stops; only = λ p us h z. let o = f.only p.0 p.1 us h z in (pair_same e p.0 w p.1 o.0 o.1, o.2) } in
     record { phrase = record { forward = s.forward; within = m; whole = subst (λ x. IsWhole (Expr × Span) SpelledExpr Stops (symbols (drop at tokens)) (e, x) (symbols (drop next tokens))) s.is (subst (λ x. IsWhole (Expr × Span) SpelledExpr Stops (symbols (drop at tokens)) (e, w) (symbols x)) (sym r) whole_here) } }
+
+-- ---- the answers
+
+pub tree_answer : (tokens : List Token) (at next : ℕ) (tree : code.Expr) (height : ℕ) (w : Span) → at ≤ next → next < length tokens → machine.whole (kept height (placed_expr tree)) w (length tokens - next) ≡ stands.outcome (drop at tokens) (want []) → IsExprRead tokens at (Ok (Whole tree height next))
+tree_answer tokens at next tree height w l m q =
+    let o = kept_whole (kept height (placed_expr tree)) w (length tokens - next) (outcome (drop at tokens) (want [])) (sym (outcome_kept (drop at tokens) (want [])) ∙ sym q) in
+    let k = kept_tree (deep_expr o.tree) (expr_height (forget_expr o.tree)) o.tree height (placed_expr tree) o.kept_as in
+    let h = here tokens at next o.tree w l m o.is in
+    let e : expr_height (forget_expr o.tree) ≡ expr_height (bare_expr tree) = ap (λ x. expr_height (forget_expr x)) k.tree ∙ ap expr_height (sym (bare_expr_is tree)) in
+    let b = bounded o.tree k.none in
+    let i = k.height in
+    (subst (λ x. IsPhrase (Expr × Span) SpelledExpr Stops tokens at (x, between tokens at next) next) k.tree h.phrase, sym i ∙ e, omega arith)
+
+pub deep_answer : (tokens : List Token) (at next : ℕ) (place : ℕ) (w : Span) → at ≤ next → next < length tokens → machine.whole (deep place) w (length tokens - next) ≡ stands.outcome (drop at tokens) (want []) → IsExprRead tokens at (Ok (Deep place next))
+deep_answer tokens at next place w l m q =
+    let o = kept_whole (deep place) w (length tokens - next) (outcome (drop at tokens) (want [])) (sym (outcome_kept (drop at tokens) (want [])) ∙ sym q) in
+    let h = here tokens at next o.tree w l m o.is in
+    (o.tree, h.phrase, kept_deep (deep_expr o.tree) (expr_height (forget_expr o.tree)) o.tree place o.kept_as)
+
+pub fault_answer : (tokens : List Token) (at fault_at : ℕ) (answer : ParseFault) → at ≤ fault_at → fault_at < length tokens → machine.fault (length tokens - fault_at) ≡ stands.outcome (drop at tokens) (want []) → ((t : Token) → slice_get tokens fault_at ≡ Some t → answer ≡ At (blamed_as t (drop (fault_at + 1) tokens)) t.span.start) → IsExprRead tokens at (Err answer)
+fault_answer tokens at i answer l m q f =
+    let b = blamed (length tokens - i) (drop at tokens) (kept_fault (length tokens - i) (outcome (drop at tokens) (want [])) (sym (outcome_kept (drop at tokens) (want [])) ∙ sym q)) in
+    let n : length (drop at tokens) ≡ length tokens - at = length-drop at tokens in
+    let o : length (b.before ++ b.token ∷ b.rest) ≡ length tokens - at = sym (ap length b.parts) ∙ n in
+    let c = b.counted in
+    let k = length-append b.before (b.token ∷ b.rest) in
+    let e : i ≡ at + length b.before = omega arith in
+    let d : drop i tokens ≡ b.token ∷ b.rest = drop_pair tokens at i b.before (b.token ∷ b.rest) b.parts e in
+    let got : slice_get tokens i ≡ Some b.token = ap (slice_get tokens) (let z : i ≡ i + 0 = omega arith in z) ∙ sym (get_drop tokens i 0) ∙ ap (λ z. slice_get z 0) d in
+    let rest : drop (i + 1) tokens ≡ b.rest = sym (drop-drop 1 i tokens) ∙ ap (drop 1) d in
+    let made : IsExprRead tokens at (Err (At (blamed_as b.token b.rest) b.token.span.start)) =
+        record { before = b.before; token = b.token; rest = b.rest; parts = b.parts; at_place = refl; of_kind = refl
+               ; tree = (b.tree, b.stands); more = b.more; begins = b.begins; none = λ p vs us h z. b.none p.0 p.1 vs us h z } in
+    subst (λ x. IsExprRead tokens at (Err x)) (sym (f b.token got ∙ ap (λ x. At (blamed_as b.token x) b.token.span.start) rest)) made

@@ -2,7 +2,10 @@
 use Rattle.std.specs.Prelude.{ℕ, ◌<◌, ◌≤◌, ◌-◌, List, [], ◌∷◌, length}
 use Rattle.c_tree.specs.PlacedOf.{placed_expr, placed_exprs}
 use Rattle.c_tree.specs.declared.tree.Span.{Span}
+use Rattle.c_tree.specs.declared.tree.Expr.{Expr}
 use Rattle.c_lexer.specs.declared.token.Token.{Token}
+use Rattle.pragma_grammar.specs.declared.phrase.Phrase.{Phrase}
+use Rattle.pragma_grammar.specs.declared.phrase.Phrase.TheVariants as a
 use Rattle.pragma_grammar.specs.declared.operand.Operand.{Operand}
 use Rattle.pragma_grammar.specs.declared.operand.Operand.TheVariants.{Tree, Deep as TooDeep}
 use Rattle.pragma_grammar.specs.declared.operand.Subscripts.{Subscripts}
@@ -109,3 +112,8 @@ read_as (r.Fault at) n = machine.fault (n - at)
 abbrev pub Within : Reading → ℕ → ℕ → Type 0
 Within (r.Whole operand at next) from n = (from ≤ next) × (next < n)
 Within (r.Fault at) from n = (from ≤ at) × (at < n)
+
+-- the answer for an operand that was kept
+abbrev pub phrase_of : Operand → ℕ → Phrase Expr
+phrase_of (Tree tree height) next = a.Whole tree height next
+phrase_of (TooDeep place) next = a.Deep place next

@@ -1,7 +1,8 @@
 //! The reader of expressions.
 
-ghost use Rattle.std.specs.Prelude.{◌<◌, length};
+ghost use Rattle.std.specs.Prelude.{◌≡◌, ◌<◌, length};
 ghost use Rattle.pragma_grammar.specs.Reading.{EndsText, IsExprRead};
+ghost use Rattle.pragma_grammar.specs.Stands.{phrase_of};
 
 use crate::blame::blamed;
 use crate::operand::Operand;
@@ -10,6 +11,16 @@ use crate::reading::{Reading, run};
 use c_lexer::token::Token;
 use c_tree::tree::Expr;
 use std::alloc::Global;
+
+/// A phrase as it was kept.
+fn phrase(operand: Operand, next: usize) -> Phrase<Expr>
+    ensures { result ≡ phrase_of operand next }
+{
+    match operand {
+        Operand::Tree { tree, height } => Phrase::Whole { tree, height, next },
+        Operand::Deep(place) => Phrase::Deep { place, next },
+    }
+}
 
 /// The whole expression (C11 6.5) that starts at an index of a text's tokens: the one after which no binary operator,
 /// no `?` and no `[` stands. Where there is none, the fault is the token after the longest run of tokens that begins
@@ -20,8 +31,7 @@ pub fn read_expr(alloc: Global, tokens: &[Token], at: usize) -> Result<Phrase<Ex
     ensures { IsExprRead tokens.now at result }
 {
     match run(alloc, tokens, at)? {
-        Reading::Whole { operand: Operand::Tree { tree, height }, next, .. } => Ok(Phrase::Whole { tree, height, next }),
-        Reading::Whole { operand: Operand::Deep(place), next, .. } => Ok(Phrase::Deep { place, next }),
+        Reading::Whole { operand, next, .. } => Ok(phrase(operand, next)),
         Reading::Fault(fault) => Err(blamed(tokens, fault)),
     }
 }

@@ -32,14 +32,14 @@ fn asks(stack: &Vec<Open>) -> u8
 {
     match stack.last() {
         None => 0,
-        Some(open) => asked_by(open),
+        Some(innermost) => asked_by(innermost),
     }
 }
 
-fn asked_by(open: &Open) -> u8
-    ensures { result ≡ asks (phrase open.now ∷ []) }
+fn asked_by(innermost: &Open) -> u8
+    ensures { result ≡ asks (phrase innermost.now ∷ []) }
 {
-    match open {
+    match innermost {
         Open::Sign { .. } => 7,
         Open::Casts { .. } => 7,
         Open::Left { op, .. } => row_of(*op) + 1,
@@ -51,10 +51,10 @@ fn asked_by(open: &Open) -> u8
 }
 
 /// Opens a phrase, for an operand.
-fn open_phrase(stack: &mut Vec<Open>, open: Open) -> Result<(), AllocError>
-    ensures { OnOk result (phrases stack.new.items ≡ phrase open ∷ phrases stack.old.items) }
+fn open_phrase(stack: &mut Vec<Open>, opened: Open) -> Result<(), AllocError>
+    ensures { OnOk result (phrases stack.new.items ≡ phrase opened ∷ phrases stack.old.items) }
 {
-    stack.push(open)?;
+    stack.push(opened)?;
     Ok(())
 }
 
@@ -64,8 +64,8 @@ fn take_turn(alloc: Global, stack: &mut Vec<Open>, operand: Operand, at: Span, r
     ensures falls { IfOk result (λ t. Falls t (length stack.new.items) (length stack.old.items)) }
 {
     match goes_on(asks(stack), row, terminal_of(token)) {
-        Some(infix) => {
-            open_phrase(stack, after_infix(operand, at, infix))?;
+        Some(operator) => {
+            open_phrase(stack, after_operator(operand, at, operator))?;
             Ok(Turn::Done(Move::Leads(State::Want)))
         }
         None => close(alloc, stack, operand, at, token),
@@ -73,10 +73,10 @@ fn take_turn(alloc: Global, stack: &mut Vec<Open>, operand: Operand, at: Span, r
 }
 
 /// The phrase that an operator opens after an operand.
-fn after_infix(operand: Operand, at: Span, infix: Infix) -> Open
-    ensures { phrase result ≡ machine.opens Kept KeptList (kept_of operand) at infix }
+fn after_operator(operand: Operand, at: Span, operator: Infix) -> Open
+    ensures { phrase result ≡ machine.opens Kept KeptList (kept_of operand) at operator }
 {
-    match infix {
+    match operator {
         Infix::Between(op) => Open::Left {
             left: operand,
             at,
@@ -96,16 +96,16 @@ fn close(alloc: Global, stack: &mut Vec<Open>, operand: Operand, at: Span, token
 {
     match stack.pop() {
         None => Ok(Turn::Done(Move::Ended { operand, at })),
-        Some(open) => close_phrase(alloc, stack, open, operand, at, token),
+        Some(innermost) => close_phrase(alloc, stack, innermost, operand, at, token),
     }
 }
 
 /// The token ends a phrase, which was the innermost one.
-fn close_phrase(alloc: Global, stack: &mut Vec<Open>, open: Open, operand: Operand, at: Span, token: &Token) -> Result<Turn, AllocError>
-    ensures turned { IfOk result (λ t. turned t (phrases stack.new.items) (symbol token.now) ≡ closes (phrase open ∷ phrases stack.old.items) (kept_of operand) at (symbol token.now)) }
+fn close_phrase(alloc: Global, stack: &mut Vec<Open>, innermost: Open, operand: Operand, at: Span, token: &Token) -> Result<Turn, AllocError>
+    ensures turned { IfOk result (λ t. turned t (phrases stack.new.items) (symbol token.now) ≡ closes (phrase innermost ∷ phrases stack.old.items) (kept_of operand) at (symbol token.now)) }
     ensures falls { IfOk result (λ t. Falls t (length stack.new.items) (suc (length stack.old.items))) }
 {
-    match open {
+    match innermost {
         Open::Sign { at: first, op } => {
             let at = spanning(first, at);
             Ok(Turn::Again {
