@@ -31,7 +31,7 @@ use Rattle.pragma_grammar.proofs.Places.{spanned, Spanned, last_of, Last, none_e
 
 -- ---- what is kept of an outcome
 
-abbrev keep_outcome : Outcome → stands.Outcome
+abbrev pub keep_outcome : Outcome → stands.Outcome
 keep_outcome (machine.whole e w n) = machine.whole (keep e) w n
 keep_outcome (machine.fault n) = machine.fault n
 keep_outcome machine.unfinished = machine.unfinished
@@ -133,10 +133,10 @@ get_drop (x ∷ xs) (suc m) i = get_drop xs m i ∙ ap (slice_get (x ∷ xs)) (l
 first_same : {s t : Symbol} {ss ts : List Symbol} → s ∷ ss ≡ t ∷ ts → s ≡ t
 first_same q = cc
 
-abbrev pair : Expr → Span → Expr × Span
+abbrev pub pair : Expr → Span → Expr × Span
 pair e w = (e, w)
 
-pair_same : (e f : Expr) (v w : Span) → e ≡ f → v ≡ w → pair e v ≡ pair f w
+pub pair_same : (e f : Expr) (v w : Span) → e ≡ f → v ≡ w → pair e v ≡ pair f w
 pair_same e f v w p q = ap (λ x. pair x v) p ∙ ap (λ x. pair f x) q
 
 -- where the tokens of a phrase begin and end
