@@ -12,5 +12,5 @@ pub mod Stopping
 pub mod Wholes
 pub mod ReadExpr
 pub mod LastToken
-pub mod Laws
+pub mod OneTree
 pub mod Turns

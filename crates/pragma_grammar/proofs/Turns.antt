@@ -1,11 +1,13 @@
 -- The arms of the reader's functions: what each leaves is what the automaton does.
-use Rattle.std.proofs.Common.{◌≡◌, ℕ, ◌+◌, ◌-◌, List, [], ◌∷◌, ◌++◌, length, Option, Some, None, refl, sym, ap, ◌∙◌, subst, Bor}
+use Rattle.std.proofs.Common.{◌≡◌, ℕ, ◌+◌, ◌-◌, List, [], ◌∷◌, ◌++◌, length, Bool, true, false, Option, Some, None, refl, sym, ap, ◌∙◌, subst, Bor}
 use Rattle.std.specs.Prelude.{slice_get, option_copied, option_to_list, max}
 use Rattle.c_tree.specs.declared.tree.Expr as code
+use Rattle.c_tree.specs.declared.tree.Expr.{fold-roll-Expr}
+use Rattle.c_tree.specs.declared.tree.Expr.TheOpen as layer
 use Rattle.c_tree.specs.Bare.{Name}
 use Rattle.c_tree.specs.Placed
 use Rattle.c_tree.specs.Placed.{item}
-use Rattle.c_tree.specs.PlacedOf.{placed_expr, placed_exprs}
+use Rattle.c_tree.specs.PlacedOf.{placed_expr, placed_exprs, expr_layer}
 use Rattle.c_tree.specs.declared.tree.Span.{Span}
 use Rattle.c_tree.specs.declared.tree.UnOp.{UnOp}
 use Rattle.c_tree.specs.declared.tree.Ty.{Ty}
@@ -22,11 +24,11 @@ use Rattle.pragma_grammar.specs.declared.operand.Operand.TheVariants.{Tree}
 use Rattle.pragma_grammar.specs.declared.open_phrase.Infix.{Infix}
 use Rattle.pragma_grammar.specs.declared.open_phrase.Open.{Open}
 use Rattle.pragma_grammar.specs.Symbols.{Symbol, symbol, name, number, punct, keyword, place, spanning}
-use Rattle.pragma_grammar.specs.Terminals.{terminal_of, unary_terminal, infix_terminal}
+use Rattle.pragma_grammar.specs.Terminals.{terminal_of, unary_terminal, infix_terminal, is_square_open, is_square_close, is_colon, begun_type}
 use Rattle.pragma_grammar.specs.Trees.{join_last}
 use Rattle.pragma_grammar.specs.Machine as machine
 use Rattle.pragma_grammar.specs.Kept.{Kept, kept, KeptList, kept_list, node, keep_element, keep_subscript, keeps}
-use Rattle.pragma_grammar.specs.Stands.{kept_of, KeptOpen, KeptMove, phrase, onto, phrases, asks, closes, settle, begin}
+use Rattle.pragma_grammar.specs.Stands.{kept_of, KeptOpen, KeptMove, phrase, onto, phrases, asks, closes, settle, begin, begun}
 use Rattle.pragma_grammar.proofs.Stack.{asks_last, pushed}
 use Rattle.pragma_grammar.proofs.Terminals.{infix_as, unary_as, is_punct, is_keyword, symbol_place}
 
@@ -55,23 +57,51 @@ turn_closes k s r e w t d g q f a h =
 
 -- ---- tokens that are taken, and others
 
+clash : false ≡ true → ⊥
+clash q = cc
+
+same_type : {x y : Ty} → Some x ≡ Some y → x ≡ y
+same_type q = cc
+
+no_type : {y : Ty} → None ≡ Some y → ⊥
+no_type q = cc
+
 pub sign_is : (p : Punct) (token : Token) (d : Terminal) → d ≡ terminal_of (symbol token) → d ≡ term.Punct p → symbol token ≡ punct p token.span
 sign_is p token d q h = is_punct p token (sym q ∙ h)
 
 pub word_is : (k : Keyword) (token : Token) (d : Terminal) → d ≡ terminal_of (symbol token) → d ≡ term.Keyword k → symbol token ≡ keyword k token.span
 word_is k token d q h = is_keyword k token (sym q ∙ h)
 
+pub not_end : (e : Kept) (w : Span) (t : Symbol) (d : Terminal) (x : Bool) → d ≡ terminal_of t → x ≡ is_square_open d → x ≡ false → machine.ended e w ≡ machine.ends_at Kept KeptList e w t
+not_end e w (punct sign.SquareOpen z) d x q p n = absurd (clash (sym n ∙ p ∙ ap is_square_open q))
+not_end e w t d x q p n = refl
+
+pub at_square : (e : Kept) (w : Span) (t : Symbol) (d : Terminal) (x : Bool) → d ≡ terminal_of t → x ≡ is_square_open d → x ≡ true → machine.stuck ≡ machine.ends_at Kept KeptList e w t
+at_square e w (punct sign.SquareOpen z) d x q p n = refl
+at_square e w t d x q p n = absurd (clash (sym (ap is_square_open q) ∙ sym p ∙ n))
+
 pub not_round : (e : Kept) (a : Span) (k : List KeptOpen) (t : Symbol) (d : Terminal) → d ≡ terminal_of t → (d ≡ term.Punct sign.RoundClose → ⊥) → machine.stuck ≡ machine.expect_round Kept KeptList e a k t
 not_round e a k (punct sign.RoundClose z) d q n = absurd (n q)
 not_round e a k t d q n = refl
 
-pub not_square : (x : Name) (a : Span) (es : KeptList) (k : List KeptOpen) (t : Symbol) (d : Terminal) → d ≡ terminal_of t → (d ≡ term.Punct sign.SquareClose → ⊥) → machine.stuck ≡ machine.expect_square Kept KeptList x a es k t
-not_square x a es k (punct sign.SquareClose z) d q n = absurd (n q)
-not_square x a es k t d q n = refl
+pub square_closes : (x : Name) (a : Span) (es : KeptList) (k : List KeptOpen) (token : Token) (d : Terminal) (y : Bool) → d ≡ terminal_of (symbol token) → y ≡ is_square_close d → y ≡ true → machine.leads (machine.access x a es token.span k) ≡ machine.expect_square Kept KeptList x a es k (symbol token)
+square_closes x a es k token d y q p n = closing (symbol token) token.span (symbol_place token) q
+  where
+    closing : (t : Symbol) (s : Span) → place t ≡ s → d ≡ terminal_of t → machine.leads (machine.access x a es s k) ≡ machine.expect_square Kept KeptList x a es k t
+    closing (punct sign.SquareClose z) s h q = ap (λ v. machine.leads (machine.access x a es v k)) (sym h)
+    closing t s h q = absurd (clash (sym (ap is_square_close q) ∙ sym p ∙ n))
 
-pub not_colon : (c : Kept) (v : Span) (e : Kept) (k : List KeptOpen) (t : Symbol) (d : Terminal) → d ≡ terminal_of t → (d ≡ term.Punct sign.Colon → ⊥) → machine.stuck ≡ machine.expect_colon Kept KeptList c v e k t
-not_colon c v e k (punct sign.Colon z) d q n = absurd (n q)
-not_colon c v e k t d q n = refl
+pub not_square : (x : Name) (a : Span) (es : KeptList) (k : List KeptOpen) (t : Symbol) (d : Terminal) (y : Bool) → d ≡ terminal_of t → y ≡ is_square_close d → y ≡ false → machine.stuck ≡ machine.expect_square Kept KeptList x a es k t
+not_square x a es k (punct sign.SquareClose z) d y q p n = absurd (clash (sym n ∙ p ∙ ap is_square_close q))
+not_square x a es k t d y q p n = refl
+
+pub colon_closes : (c : Kept) (v : Span) (e : Kept) (k new : List KeptOpen) (t : Symbol) (d : Terminal) (y : Bool) → d ≡ terminal_of t → y ≡ is_colon d → y ≡ true → new ≡ machine.other c v e ∷ k → machine.leads (machine.want new) ≡ machine.expect_colon Kept KeptList c v e k t
+colon_closes c v e k new (punct sign.Colon z) d y q p n h = ap (λ x. machine.leads (machine.want x)) h
+colon_closes c v e k new t d y q p n h = absurd (clash (sym (ap is_colon q) ∙ sym p ∙ n))
+
+pub not_colon : (c : Kept) (v : Span) (e : Kept) (k : List KeptOpen) (t : Symbol) (d : Terminal) (y : Bool) → d ≡ terminal_of t → y ≡ is_colon d → y ≡ false → machine.stuck ≡ machine.expect_colon Kept KeptList c v e k t
+not_colon c v e k (punct sign.Colon z) d y q p n = absurd (clash (sym n ∙ p ∙ ap is_colon q))
+not_colon c v e k t d y q p n = refl
 
 pub not_type_end : (a : Span) (y : Ty) (k : List KeptOpen) (t : Symbol) (d : Terminal) → d ≡ terminal_of t → (d ≡ term.Punct sign.RoundClose → ⊥) → machine.stuck ≡ machine.end_type Kept KeptList a y k t
 not_type_end a y k (punct sign.RoundClose z) d q n = absurd (n q)
@@ -85,14 +115,23 @@ pub not_long_int : (a : Span) (k : List KeptOpen) (t : Symbol) (d : Terminal) �
 not_long_int a k (keyword word.Int z) d q n = absurd (n q)
 not_long_int a k t d q n = refl
 
-pub no_type_begins : (a : Span) (k : List KeptOpen) (t : Symbol) (d : Terminal) → d ≡ terminal_of t → (d ≡ term.Keyword word.Int → ⊥) → (d ≡ term.Keyword word.Long → ⊥) → begin (machine.round a ∷ k) t ≡ machine.begin_round Kept KeptList keeps a k t
-no_type_begins a k (keyword word.Int z) d q m n = absurd (m q)
-no_type_begins a k (keyword word.Long z) d q m n = absurd (n q)
-no_type_begins a k t d q m n = refl
+pub type_begins : (a : Span) (y : Ty) (k : List KeptOpen) (t : Symbol) (d : Terminal) (g : Option Ty) → d ≡ terminal_of t → g ≡ begun_type d → g ≡ Some y → machine.leads (begun a y k) ≡ machine.begin_round Kept KeptList keeps a k t
+type_begins a y k (keyword word.Int z) d g q p n = ap (λ x. machine.leads (begun a x k)) (same_type (sym n ∙ p ∙ ap begun_type q))
+type_begins a y k (keyword word.Long z) d g q p n = ap (λ x. machine.leads (begun a x k)) (same_type (sym n ∙ p ∙ ap begun_type q))
+type_begins a y k t d g q p n = absurd (no_type (sym (ap begun_type q) ∙ sym p ∙ n))
 
-pub no_subscript : (x : Name) (a : Span) (es : KeptList) (z : Span) (k : List KeptOpen) (t : Symbol) (d : Terminal) → d ≡ terminal_of t → (d ≡ term.Punct sign.SquareOpen → ⊥) → settle 8 (keep_element x es (spanning a z)) (spanning a z) k t ≡ machine.subscripted Kept KeptList keeps x a es z k t
-no_subscript x a es z k (punct sign.SquareOpen b) d q n = absurd (n q)
-no_subscript x a es z k t d q n = refl
+pub no_type_begins : (a : Span) (k : List KeptOpen) (t : Symbol) (d : Terminal) (g : Option Ty) → d ≡ terminal_of t → g ≡ begun_type d → g ≡ None → begin (machine.round a ∷ k) t ≡ machine.begin_round Kept KeptList keeps a k t
+no_type_begins a k (keyword word.Int z) d g q p n = absurd (no_type (sym n ∙ p ∙ ap begun_type q))
+no_type_begins a k (keyword word.Long z) d g q p n = absurd (no_type (sym n ∙ p ∙ ap begun_type q))
+no_type_begins a k t d g q p n = refl
+
+pub no_subscript : (x : Name) (a : Span) (es : KeptList) (z : Span) (k : List KeptOpen) (t : Symbol) (d : Terminal) (y : Bool) → d ≡ terminal_of t → y ≡ is_square_open d → y ≡ false → settle 8 (keep_element x es (spanning a z)) (spanning a z) k t ≡ machine.subscripted Kept KeptList keeps x a es z k t
+no_subscript x a es z k (punct sign.SquareOpen b) d y q p n = absurd (clash (sym n ∙ p ∙ ap is_square_open q))
+no_subscript x a es z k t d y q p n = refl
+
+pub subscript_begins : (x : Name) (a : Span) (es : KeptList) (z : Span) (k new : List KeptOpen) (t : Symbol) (d : Terminal) (y : Bool) → d ≡ terminal_of t → y ≡ is_square_open d → y ≡ true → new ≡ machine.square x a es ∷ k → machine.leads (machine.want new) ≡ machine.subscripted Kept KeptList keeps x a es z k t
+subscript_begins x a es z k new (punct sign.SquareOpen b) d y q p n h = ap (λ v. machine.leads (machine.want v)) h
+subscript_begins x a es z k new t d y q p n h = absurd (clash (sym (ap is_square_open q) ∙ sym p ∙ n))
 
 -- the first token of a phrase, where it is neither a number, a name nor `(`
 pub begins_by : (k : List KeptOpen) (t : Symbol) (d : Terminal) (o : Option UnOp) → d ≡ terminal_of t → (d ≡ term.Number → ⊥) → (d ≡ term.Name → ⊥) → (d ≡ term.Punct sign.RoundOpen → ⊥) → o ≡ unary_terminal d → machine.prefixed Kept KeptList o (place t) k ≡ begin k t
@@ -110,6 +149,10 @@ placed_push (x ∷ xs) e = ap (λ z. Placed.more_exprs (placed_expr x) z) (place
 pub one_more_kept : (g h r : ℕ) (xs now : List code.Expr) (e : code.Expr) (last : Operand) → last ≡ Tree e h → now ≡ xs ++ e ∷ [] → r ≡ max g h → kept_list r (placed_exprs now) ≡ keep_subscript (kept_list g (placed_exprs xs)) (kept_of last)
 one_more_kept g h r xs now e last q p m =
     ap (λ z. kept_list z (placed_exprs now)) m ∙ ap (λ z. kept_list (max g h) (placed_exprs z)) p ∙ ap (kept_list (max g h)) (placed_push xs e) ∙ ap (λ z. keep_subscript (kept_list g (placed_exprs xs)) (kept_of z)) (sym q)
+
+pub placed_item : (x : Name) (ts : List code.Expr) (s : Span) → placed_expr (code.Item x ts s) ≡ item x (placed_exprs ts) s
+unfolding code.roll-Expr denote.Hole.Carrier.roll
+placed_item x ts s = fold-roll-Expr Placed.Expr expr_layer (layer.Item x ts s)
 
 pub element_kept : (x : Name) (ts : List code.Expr) (h : ℕ) (s : Span) → (ts ≡ [] → ⊥) → node (1 + h) (item x (placed_exprs ts) s) s ≡ keep_element x (kept_list h (placed_exprs ts)) s
 element_kept x [] h s n = absurd (n refl)

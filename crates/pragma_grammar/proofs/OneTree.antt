@@ -12,7 +12,7 @@ use Rattle.pragma_grammar.specs.Machine as machine
 use Rattle.pragma_grammar.specs.Machine.{want}
 use Rattle.pragma_grammar.specs.Expressions.{Phrase}
 use Rattle.pragma_grammar.specs.Deep.{first, too_deep, deep_expr, deep_exprs}
-use Rattle.pragma_grammar.specs.Reading.{EndsText, Stops, SpelledExpr}
+use Rattle.pragma_grammar.specs.Reading.{EndsText, Stops, SpelledExpr, DeepWhereAbove}
 use Rattle.pragma_grammar.proofs.Wholes.{Outcome, outcome, found, blamed}
 use Rattle.pragma_grammar.proofs.ReadExpr.{keep_outcome, outcome_kept, pair, pair_same, bounded}
 use Rattle.pragma_grammar.proofs.LastToken.{finishes}
@@ -68,8 +68,5 @@ mutual
       let z : max (expr_height (forget_expr e)) (exprs_height (forget_exprs es)) ≤ 256 = l in
       both_none (deep_expr e) _ (not_too_deep e (omega arith)) (none_too_deep es (omega arith))
 
-abbrev pub AtMost : Expr → Type 0
-AtMost e = (deep_expr e ≡ None → expr_height (forget_expr e) ≤ 256) × (expr_height (forget_expr e) ≤ 256 → deep_expr e ≡ None)
-
-pub deep_where_above : (e : Expr) → AtMost e
+pub deep_where_above : (e : Expr) → DeepWhereAbove e
 deep_where_above e = (bounded e, not_too_deep e)
