@@ -10,3 +10,15 @@ pub mod Pieces
 pub mod DirectiveEnds
 pub mod DirectiveLetters
 pub mod DirectiveReached
+pub mod Terminals
+pub mod Stack
+pub mod Maps
+pub mod Keeping
+pub mod Pieces
+pub mod Places
+pub mod Stopping
+pub mod Wholes
+pub mod ReadExpr
+pub mod LastToken
+pub mod OneTree
+pub mod Turns

@@ -10,3 +10,5 @@ pub mod Trees
 pub mod Terminals
 pub mod DirectiveMachine
 pub mod DirectiveTrees
+pub mod Kept
+pub mod Stands
