@@ -1,0 +1,7 @@
+pub mod Layout
+pub mod Expressions
+pub mod Directives
+pub mod Statements
+pub mod Programs
+pub mod Else
+pub mod Examples
