@@ -1,0 +1,4 @@
+pub mod Tails
+pub mod Follows
+pub mod Steps
+pub mod Ends
