@@ -1,5 +1,5 @@
 -- What a loop has left to print: the next element and the rest, and nothing at the end.
-use Rattle.std.proofs.Common.{◌≡◌, ◌∙◌, ◌<◌, ◌≤◌, ◌+◌, ◌++◌, ℕ, suc, List, [], ◌∷◌, length, map, drop, slice_index_or, ap, sym}
+use Rattle.std.proofs.Common.{◌≡◌, ◌∙◌, ◌<◌, ◌≤◌, ◌+◌, ◌++◌, ℕ, suc, Bool, false, List, [], ◌∷◌, length, map, drop, slice_index_or, ap, sym}
 use Rattle.std.proofs.lemmas.List.{at_drop_more, drop_all}
 use Rattle.std.specs.Prelude.{codes}
 use Rattle.c_tree.specs.BareOf.{bare_expr, bare_exprs, bare_count, bare_clause, bare_clauses, bare_item, bare_items, bare_stmt, bare_stmts, bare_param, bare_top}
@@ -10,9 +10,9 @@ use Rattle.c_tree.specs.declared.tree.ApplyItem.{ApplyItem}
 use Rattle.c_tree.specs.declared.tree.Stmt.{Stmt}
 use Rattle.c_tree.specs.declared.tree.Param.{Param}
 use Rattle.c_tree.specs.declared.tree.Item.{Item}
-use Rattle.c_printer.specs.Layout.{text}
+use Rattle.c_printer.specs.Layout.{text, separator}
 use Rattle.c_printer.specs.Expressions.{expr_form, subscripts, further}
-use Rattle.c_printer.specs.Directives.{count_form, further_counts, clause_form, clauses_form, item_form, further_items}
+use Rattle.c_printer.specs.Directives.{count_form, further_counts, clause_form, clauses_form, item_form, items_after}
 use Rattle.c_printer.specs.Statements.{stmt_form, stmts_form}
 use Rattle.c_printer.specs.Programs.{param_form, further_params, top_form, program_form}
 
@@ -50,12 +50,12 @@ clauses_more xs i = rest_more (λ ys. text (clauses_form (bare_clauses ys))) xs 
 pub clauses_end : (xs : List Clause) (i : ℕ) → length xs ≤ i → text (clauses_form (bare_clauses (drop i xs))) ≡ []
 clauses_end xs i = rest_none (λ ys. text (clauses_form (bare_clauses ys))) xs i
 
-pub items_more : (xs : List ApplyItem) (i : ℕ) (x : ApplyItem) → i < length xs → x ≡ slice_index_or xs i x
-    → text (further_items (bare_items (drop i xs))) ≡ codes ", " ++ (text (item_form (bare_item x)) ++ text (further_items (bare_items (drop (i + 1) xs))))
-items_more xs i = rest_more (λ ys. text (further_items (bare_items ys))) xs i
+pub items_more : (first : Bool) (xs : List ApplyItem) (i : ℕ) (x : ApplyItem) → i < length xs → x ≡ slice_index_or xs i x
+    → text (items_after first (bare_items (drop i xs))) ≡ text (separator first) ++ (text (item_form (bare_item x)) ++ text (items_after false (bare_items (drop (i + 1) xs))))
+items_more first xs i = rest_more (λ ys. text (items_after first (bare_items ys))) xs i
 
-pub items_end : (xs : List ApplyItem) (i : ℕ) → length xs ≤ i → text (further_items (bare_items (drop i xs))) ≡ []
-items_end xs i = rest_none (λ ys. text (further_items (bare_items ys))) xs i
+pub items_end : (first : Bool) (xs : List ApplyItem) (i : ℕ) → length xs ≤ i → text (items_after first (bare_items (drop i xs))) ≡ []
+items_end first xs i = rest_none (λ ys. text (items_after first (bare_items ys))) xs i
 
 pub stmts_more : (level : ℕ) (xs : List Stmt) (i : ℕ) (x : Stmt) → i < length xs → x ≡ slice_index_or xs i x
     → text (stmts_form level (bare_stmts (drop i xs))) ≡ text (stmt_form level (bare_stmt x)) ++ text (stmts_form level (bare_stmts (drop (i + 1) xs)))
@@ -77,3 +77,5 @@ tops_more xs i = rest_more (λ ys. text (program_form (map bare_top ys))) xs i
 
 pub tops_end : (xs : List Item) (i : ℕ) → length xs ≤ i → text (program_form (map bare_top (drop i xs))) ≡ []
 tops_end xs i = rest_none (λ ys. text (program_form (map bare_top ys))) xs i
+
+pub ruleset rests = (subscripts_more, subscripts_end, further_more, further_end, counts_more, counts_end, clauses_more, clauses_end, items_more, items_end, stmts_more, stmts_end, params_more, params_end, tops_more, tops_end)

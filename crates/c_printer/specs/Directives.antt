@@ -1,12 +1,12 @@
 -- The printed form of directives (OpenMP 6.0, loop-transforming constructs): `tile sizes(4, 2) apply(grid(1): reverse)`.
 -- Clauses stand in their order, separated by one space.
-use Rattle.std.specs.Prelude.{List, [], ◌∷◌, Option, Some, None, codes}
+use Rattle.std.specs.Prelude.{Bool, true, false, List, [], ◌∷◌, Option, Some, None, codes}
 use Rattle.c_tree.specs.Bare.{Name, Exprs, no_exprs, more_exprs, Count, fill, given, Directive, directive, Clauses, no_clauses, more_clauses, Clause, sizes, permutation, counts, looprange, full, partial, apply, Items, no_items, more_items, Item, nothing as does_nothing, acts}
 use Rattle.c_tree.specs.declared.tree.Kind.{Kind}
 use Rattle.c_tree.specs.declared.tree.Kind.TheVariants.{Tile, Unroll, Interchange, Reverse, Split, Fuse}
 use Rattle.c_lexer.specs.declared.token.Punct.TheVariants.{Colon}
 use Rattle.c_lexer.specs.declared.words.Keyword.TheVariants as k
-use Rattle.c_printer.specs.Layout.{Layout, nothing, ◌&◌, word, key, sign, gap, parens, comma}
+use Rattle.c_printer.specs.Layout.{Layout, nothing, ◌&◌, word, key, sign, gap, parens, comma, separator}
 use Rattle.c_printer.specs.Expressions.{expr_form, listed}
 
 abbrev pub kind_word : Kind → Name
@@ -47,7 +47,7 @@ abbrev mutual
   clause_form full = word (codes "full")
   clause_form (partial None) = word (codes "partial")
   clause_form (partial (Some factor)) = word (codes "partial") & parens (expr_form factor)
-  clause_form (apply m es is) = word (codes "apply") & parens (modifier_form m es & listed_items is)
+  clause_form (apply m es is) = word (codes "apply") & parens (modifier_form m es & items_after true is)
 
   pub clauses_form : Clauses → Layout
   clauses_form no_clauses = nothing
@@ -60,10 +60,10 @@ abbrev mutual
   item_form does_nothing = word (codes "nothing")
   item_form (acts d) = directive_form d
 
-  pub further_items : Items → Layout
-  further_items no_items = nothing
-  further_items (more_items i is) = comma & item_form i & further_items is
+  -- items of which the first follows another one, or none
+  pub items_after : Bool → Items → Layout
+  items_after first no_items = nothing
+  items_after first (more_items i is) = separator first & item_form i & items_after false is
 
-  pub listed_items : Items → Layout
-  listed_items no_items = nothing
-  listed_items (more_items i is) = item_form i & further_items is
+abbrev pub listed_items : Items → Layout
+listed_items is = items_after true is

@@ -149,10 +149,10 @@ pub record Programs : Type 0 where
       ∷ global Int (codes "a") (exprs (read (codes "N") ∷ [])) None
       ∷ global Int (codes "s") no_exprs (Some (int 2))
       ∷ main (list (
-          decl Int (codes "k") None
-          ∷ for_ (head (a_stmt (set (scalar (codes "k")) op.Plain (int 0))) (Some (bin Lt (read (codes "k")) (read (codes "N")))) (a_stmt (step (scalar (codes "k")) true)))
-              (list (set (target (codes "a") (exprs (read (codes "k") ∷ []))) op.Plain (bin Mul (read (codes "k")) (bin Add (read (codes "s")) (int 1))) ∷ []))
-          ∷ if_else (bin Gt (item (codes "a") (exprs (int 2 ∷ []))) (int 5)) (list (print (item (codes "a") (exprs (int 2 ∷ []))) ∷ [])) (list (empty ∷ []))
-          ∷ []))
+      decl Int (codes "k") None
+      ∷ for_ (head (a_stmt (set (scalar (codes "k")) op.Plain (int 0))) (Some (bin Lt (read (codes "k")) (read (codes "N")))) (a_stmt (step (scalar (codes "k")) true)))
+      (list (set (target (codes "a") (exprs (read (codes "k") ∷ []))) op.Plain (bin Mul (read (codes "k")) (bin Add (read (codes "s")) (int 1))) ∷ []))
+      ∷ if_else (bin Gt (item (codes "a") (exprs (int 2 ∷ []))) (int 5)) (list (print (item (codes "a") (exprs (int 2 ∷ []))) ∷ [])) (list (empty ∷ []))
+      ∷ []))
       ∷ [])
       ≡ codes "#define N 3\nextern void print(long long);\nint a[N];\nint s = 2;\nint main(void) {\n    int k;\n    for (k = 0; k < N; k++) {\n        a[k] = k * (s + 1);\n    }\n    if (a[2] > 5) {\n        print(a[2]);\n    } else {\n        ;\n    }\n    return 0;\n}\n"

@@ -21,7 +21,6 @@ pub data Mark : Type 0 where
   feed : Mark
 
 infixr 4 ◌&◌
-
 pub data Layout : Type 0 where
   nothing : Layout
   mark : Mark → Layout
@@ -123,3 +122,8 @@ semicolon = sign Semicolon
 
 abbrev pub comma : Layout
 comma = sign Comma & gap
+
+-- a comma before an element of a list that isn't the first
+abbrev pub separator : Bool → Layout
+separator true = nothing
+separator false = comma

@@ -3,5 +3,4 @@ pub mod Expressions
 pub mod Directives
 pub mod Statements
 pub mod Programs
-pub mod Else
 pub mod Examples

@@ -6,9 +6,10 @@ ghost use Rattle.c_tree.specs.BareOf.{bare_expr, bare_exprs, bare_count, bare_di
 ghost use Rattle.c_tree.specs.Bare.{partial};
 ghost use Rattle.c_printer.specs.Layout.{text, parens};
 ghost use Rattle.c_printer.specs.Expressions.{listed};
-ghost use Rattle.c_printer.specs.Directives.{kind_word, count_form, further_counts, listed_counts, indices, modifier_form, clause_form, clauses_form, directive_form, item_form, further_items, listed_items};
+ghost use Rattle.c_printer.specs.Directives.{kind_word, count_form, further_counts, listed_counts, indices, modifier_form, clause_form, clauses_form, directive_form, item_form, items_after, listed_items};
 
-use crate::expressions::{print_expr, print_listed};
+use crate::expressions::{print_expr, print_further, print_listed};
+use crate::tokens::push_separator;
 use c_tree::name::Name;
 use c_tree::tree::{ApplyItem, Clause, ClauseKind, Count, Directive, Expr, Kind};
 use std::alloc::AllocError;
@@ -64,7 +65,12 @@ fn print_indices(out: &mut Vec<u8>, es: &[Expr]) -> Result<(), AllocError>
 {
     match es {
         [] => Ok(()),
-        [_, ..] => print_in_parentheses(out, es),
+        [first, rest @ ..] => {
+            out.extend_from_slice(b"(")?;
+            print_expr(out, first)?;
+            print_further(out, rest)?;
+            out.extend_from_slice(b")")
+        }
     }
 }
 
@@ -77,11 +83,7 @@ fn print_in_parentheses(out: &mut Vec<u8>, es: &[Expr]) -> Result<(), AllocError
 }
 
 /// Prints which loops the items of an `apply` are for.
-fn print_modifier(
-    out: &mut Vec<u8>,
-    modifier: &Option<Name>,
-    es: &[Expr],
-) -> Result<(), AllocError>
+fn print_modifier(out: &mut Vec<u8>, modifier: &Option<Name>, es: &[Expr]) -> Result<(), AllocError>
     ensures { OnOk result (out.new.items ≡ out.old.items ++ text (modifier_form modifier.now (bare_exprs es.now))) }
 {
     match modifier {
@@ -179,26 +181,16 @@ fn print_item(out: &mut Vec<u8>, item: &ApplyItem) -> Result<(), AllocError>
     }
 }
 
-#[cycle(directives)]
-fn print_further_items(out: &mut Vec<u8>, items: &[ApplyItem]) -> Result<(), AllocError>
-    ensures { OnOk result (out.new.items ≡ out.old.items ++ text (further_items (bare_items items.now))) }
-{
-    'each: for item in items {
-        out.extend_from_slice(b", ")?;
-        print_item(out, item)?;
-    }
-    Ok(())
-}
-
+/// Prints the items of an `apply`, with commas between them.
 #[cycle(directives)]
 fn print_items(out: &mut Vec<u8>, items: &[ApplyItem]) -> Result<(), AllocError>
     ensures { OnOk result (out.new.items ≡ out.old.items ++ text (listed_items (bare_items items.now))) }
 {
-    match items {
-        [] => Ok(()),
-        [first, rest @ ..] => {
-            print_item(out, first)?;
-            print_further_items(out, rest)
-        }
+    let mut first = true;
+    'each: for item in items {
+        push_separator(out, first)?;
+        print_item(out, item)?;
+        first = false;
     }
+    Ok(())
 }

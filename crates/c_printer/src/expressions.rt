@@ -104,7 +104,12 @@ pub fn print_expr(out: &mut Vec<u8>, e: &Expr) -> Result<(), AllocError>
             let needed = is_signed(*op, of.get()) || row_of(of.get()) < 7;
             print_wrapped(out, needed, of.get())
         }
-        Expr::Bin { op, left, right, .. } => {
+        Expr::Bin {
+            op,
+            left,
+            right,
+            ..
+        } => {
             let row = binary_row(*op);
             print_wrapped(out, row_of(left.get()) < row, left.get())?;
             out.extend_from_slice(binary_sign(*op))?;
@@ -150,7 +155,7 @@ pub fn print_subscripts(out: &mut Vec<u8>, es: &[Expr]) -> Result<(), AllocError
 }
 
 /// Prints expressions after others in a list.
-fn print_further(out: &mut Vec<u8>, es: &[Expr]) -> Result<(), AllocError>
+pub fn print_further(out: &mut Vec<u8>, es: &[Expr]) -> Result<(), AllocError>
     ensures { OnOk result (out.new.items ≡ out.old.items ++ text (further (bare_exprs es.now))) }
 {
     'each: for e in es {

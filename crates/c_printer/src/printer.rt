@@ -5,12 +5,12 @@ ghost use Rattle.std.specs.Option.{option_map};
 ghost use Rattle.c_tree.specs.BareOf.{bare_expr, bare_exprs, bare_stmts, bare_param, bare_top, bare_program};
 ghost use Rattle.c_tree.specs.Height.{stmts_height, top_height, program_height};
 ghost use Rattle.c_tree.specs.Bare.{define, extern_, global, function, main};
-ghost use Rattle.c_printer.specs.Layout.{text};
+ghost use Rattle.c_printer.specs.Layout.{text, parens, gap, ◌&◌};
 ghost use Rattle.c_printer.specs.Programs.{define_value, extern_form, param_form, further_params, params_form, return_line, top_form, program_form, printed};
 
 use crate::expressions::print_subscripts;
 use crate::statements::{print_braces, print_initial, print_stmts};
-use crate::tokens::{push_number, push_type};
+use crate::tokens::{push_declared, push_number};
 use c_tree::name::Name;
 use c_tree::tree::{Expr, Item, Param, Port, Program, Stmt, Ty};
 use std::alloc::{AllocError, Global};
@@ -36,9 +36,7 @@ fn print_define_value(
 fn print_param(out: &mut Vec<u8>, given: &Param) -> Result<(), AllocError>
     ensures { OnOk result (out.new.items ≡ out.old.items ++ text (param_form (bare_param given.now))) }
 {
-    push_type(out, given.ty)?;
-    out.extend_from_slice(b" ")?;
-    out.extend_from_slice(given.name.bytes())
+    push_declared(out, given.ty, &given.name)
 }
 
 fn print_further_params(out: &mut Vec<u8>, params: &[Param]) -> Result<(), AllocError>
@@ -99,9 +97,7 @@ fn print_global(
 ) -> Result<(), AllocError>
     ensures { OnOk result (out.new.items ≡ out.old.items ++ text (top_form (global ty name.now (bare_exprs dims.now) (option_map bare_expr init.now)))) }
 {
-    push_type(out, ty)?;
-    out.extend_from_slice(b" ")?;
-    out.extend_from_slice(name.bytes())?;
+    push_declared(out, ty, name)?;
     print_subscripts(out, dims)?;
     print_initial(out, init)?;
     out.extend_from_slice(b";\n")
@@ -116,17 +112,31 @@ fn print_function(
     requires { stmts_height (bare_stmts body.now) ≤ 256 }
     ensures { OnOk result (out.new.items ≡ out.old.items ++ text (top_form (function name.now (map bare_param params.now) (bare_stmts body.now)))) }
 {
-    out.extend_from_slice(b"static void ")?;
-    out.extend_from_slice(name.bytes())?;
-    out.extend_from_slice(b"(")?;
-    print_params(out, params)?;
-    out.extend_from_slice(b") ")?;
+    print_function_head(out, name, params)?;
     print_braces(out, 0, body)?;
     out.extend_from_slice(b"\n")
 }
 
+/// Prints a function's name and parameters, up to its body.
+fn print_function_head(out: &mut Vec<u8>, name: &Name, params: &[Param]) -> Result<(), AllocError>
+    ensures { OnOk result (out.new.items ≡ out.old.items ++ (codes "static void " ++ (name.now ++ text (parens (params_form (map bare_param params.now)) & gap)))) }
+{
+    out.extend_from_slice(b"static void ")?;
+    out.extend_from_slice(name.bytes())?;
+    print_parenthesized(out, params)?;
+    Ok(())
+}
+
+/// Prints parameters in parentheses, and a space.
+fn print_parenthesized(out: &mut Vec<u8>, params: &[Param]) -> Result<(), AllocError>
+    ensures { OnOk result (out.new.items ≡ out.old.items ++ text (parens (params_form (map bare_param params.now)) & gap)) }
+{
+    out.extend_from_slice(b"(")?;
+    print_params(out, params)?;
+    out.extend_from_slice(b") ")
+}
+
 /// The last statement of a printed `main`, and its closing brace.
-#[tactic(auto, unfolding(std::specs::Fmt::digits))]
 fn main_end() -> &'static [u8]
     ensures { result.now ≡ text return_line ++ codes "}\n" }
 {
@@ -139,7 +149,8 @@ fn print_main(out: &mut Vec<u8>, body: &[Stmt]) -> Result<(), AllocError>
 {
     out.extend_from_slice(b"int main(void) {\n")?;
     print_stmts(out, 1, body)?;
-    out.extend_from_slice(main_end())
+    out.extend_from_slice(main_end())?;
+    Ok(())
 }
 
 /// Prints an item on lines of its own.

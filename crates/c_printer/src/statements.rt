@@ -5,16 +5,15 @@ ghost use Rattle.std.specs.Option.{option_map};
 ghost use Rattle.c_tree.specs.BareOf.{bare_expr, bare_exprs, bare_target, bare_stmt, bare_stmts, bare_head, bare_directive, maybe_stmt};
 ghost use Rattle.c_tree.specs.Height.{stmt_height, stmts_height};
 ghost use Rattle.c_lexer.specs.Lexemes.{spelling};
-ghost use Rattle.c_printer.specs.Layout.{text, line, braces, parens, gap, semicolon, ◌&◌};
+ghost use Rattle.c_printer.specs.Layout.{text, mark, feed, indent, line, braces, parens, gap, semicolon, ◌&◌};
 ghost use Rattle.c_printer.specs.Expressions.{expr_form};
 ghost use Rattle.c_printer.specs.Statements.{set_sign, step_sign, target_form, initial, simple, first_part, test_part, last_part, head_form, pragma, is_loop, is_one_loop, carried, stmt_form, stmts_form};
-ghost use Rattle.c_printer.specs.Else.{else_height, else_text};
 
 use crate::directives::print_directive;
 use crate::expressions::{print_expr, print_listed, print_subscripts};
-use crate::tokens::{push_indent, push_type};
+use crate::tokens::{push_declared, push_indent};
 use c_tree::boxed::Boxed;
-use c_tree::tree::{Directive, Expr, ForHead, SetOp, Stmt, StmtList, Target};
+use c_tree::tree::{Directive, Expr, ForHead, SetOp, Stmt, Target};
 use std::alloc::AllocError;
 
 /// An assignment operator with a space on each side.
@@ -63,12 +62,15 @@ fn print_simple(out: &mut Vec<u8>, stmt: &Stmt) -> Result<(), AllocError>
 {
     match stmt {
         Stmt::Decl { ty, name, init, .. } => {
-            push_type(out, *ty)?;
-            out.extend_from_slice(b" ")?;
-            out.extend_from_slice(name.bytes())?;
+            push_declared(out, *ty, name)?;
             print_initial(out, init)
         }
-        Stmt::Set { target, op, value, .. } => {
+        Stmt::Set {
+            target,
+            op,
+            value,
+            ..
+        } => {
             print_target(out, target)?;
             out.extend_from_slice(set_sign(*op))?;
             print_expr(out, value)
@@ -148,12 +150,33 @@ fn print_head(out: &mut Vec<u8>, head: &ForHead) -> Result<(), AllocError>
     print_last(out, &head.step)
 }
 
-/// Prints an expression in parentheses, with a space before and after them.
-fn print_condition(out: &mut Vec<u8>, e: &Expr) -> Result<(), AllocError>
-    ensures { OnOk result (out.new.items ≡ out.old.items ++ text (gap & parens (expr_form (bare_expr e.now)) & gap)) }
+/// Prints a line up to a body in braces: the spaces, a word, and an expression in parentheses.
+fn print_before_body(out: &mut Vec<u8>, level: u64, word: &[u8], e: &Expr) -> Result<(), AllocError>
+    ensures { OnOk result (out.new.items ≡ out.old.items ++ (text (indent level) ++ (word.now ++ text (gap & parens (expr_form (bare_expr e.now)) & gap)))) }
 {
+    push_indent(out, level)?;
+    out.extend_from_slice(word)?;
     out.extend_from_slice(b" (")?;
     print_expr(out, e)?;
+    out.extend_from_slice(b") ")
+}
+
+/// Prints what follows the body of a `do`, to the end of the line.
+fn print_after_do(out: &mut Vec<u8>, e: &Expr) -> Result<(), AllocError>
+    ensures { OnOk result (out.new.items ≡ out.old.items ++ (codes " while " ++ text (parens (expr_form (bare_expr e.now)) & semicolon & mark feed))) }
+{
+    out.extend_from_slice(b" while (")?;
+    print_expr(out, e)?;
+    out.extend_from_slice(b");\n")
+}
+
+/// Prints the line of a `for` up to its body.
+fn print_for_line(out: &mut Vec<u8>, level: u64, head: &ForHead) -> Result<(), AllocError>
+    ensures { OnOk result (out.new.items ≡ out.old.items ++ (text (indent level) ++ (codes "for " ++ text (parens (head_form (bare_head head.now)) & gap)))) }
+{
+    push_indent(out, level)?;
+    out.extend_from_slice(b"for (")?;
+    print_head(out, head)?;
     out.extend_from_slice(b") ")
 }
 
@@ -202,22 +225,25 @@ fn is_one_loop(stmts: &[Stmt]) -> bool
 
 /// Prints a statement on lines of its own, the level's spaces before each.
 #[cycle(statements)]
-pub fn print_stmt(out: &mut Vec<u8>, level: u64, stmt: &Stmt) -> Result<(), AllocError>
+fn print_stmt(out: &mut Vec<u8>, level: u64, stmt: &Stmt) -> Result<(), AllocError>
     requires { level + stmt_height (bare_stmt stmt.now) < 2 ^ 63 }
     ensures { OnOk result (out.new.items ≡ out.old.items ++ text (stmt_form level (bare_stmt stmt.now))) }
 {
     match stmt {
         Stmt::If { test, yes, no, .. } => {
-            push_indent(out, level)?;
-            out.extend_from_slice(b"if")?;
-            print_condition(out, test)?;
+            print_before_body(out, level, b"if", test)?;
             print_braces(out, level, yes.as_slice())?;
-            print_else(out, level, no)
+            match no {
+                None => out.extend_from_slice(b"\n"),
+                Some(no) => {
+                    out.extend_from_slice(b" else ")?;
+                    print_braces(out, level, no.as_slice())?;
+                    out.extend_from_slice(b"\n")
+                }
+            }
         }
         Stmt::While { test, body, .. } => {
-            push_indent(out, level)?;
-            out.extend_from_slice(b"while")?;
-            print_condition(out, test)?;
+            print_before_body(out, level, b"while", test)?;
             print_braces(out, level, body.as_slice())?;
             out.extend_from_slice(b"\n")
         }
@@ -225,20 +251,19 @@ pub fn print_stmt(out: &mut Vec<u8>, level: u64, stmt: &Stmt) -> Result<(), Allo
             push_indent(out, level)?;
             out.extend_from_slice(b"do ")?;
             print_braces(out, level, body.as_slice())?;
-            out.extend_from_slice(b" while (")?;
-            print_expr(out, test)?;
-            out.extend_from_slice(b");\n")
+            print_after_do(out, test)
         }
         Stmt::For { head, body, .. } => {
-            push_indent(out, level)?;
-            out.extend_from_slice(b"for (")?;
-            print_head(out, head)?;
-            out.extend_from_slice(b") ")?;
+            print_for_line(out, level, head)?;
             print_braces(out, level, body.as_slice())?;
             out.extend_from_slice(b"\n")
         }
         Stmt::Block { body, .. } => print_block(out, level, body.as_slice()),
-        Stmt::Omp { directive, body, .. } => {
+        Stmt::Omp {
+            directive,
+            body,
+            ..
+        } => {
             print_pragma(out, level, directive)?;
             print_carried(out, level, body.as_slice())
         }
@@ -251,22 +276,6 @@ pub fn print_stmt(out: &mut Vec<u8>, level: u64, stmt: &Stmt) -> Result<(), Allo
         | Stmt::Continue { .. }
         | Stmt::Empty { .. }
         | Stmt::Call { .. } => print_simple_line(out, level, stmt),
-    }
-}
-
-/// Prints what follows the first body of an `if`, to the end of its last line.
-#[cycle(statements)]
-fn print_else(out: &mut Vec<u8>, level: u64, no: &Option<StmtList>) -> Result<(), AllocError>
-    requires { level + else_height (option_map bare_stmts no.now) < 2 ^ 63 }
-    ensures { OnOk result (out.new.items ≡ out.old.items ++ else_text level (option_map bare_stmts no.now)) }
-{
-    match no {
-        None => out.extend_from_slice(b"\n"),
-        Some(body) => {
-            out.extend_from_slice(b" else ")?;
-            print_braces(out, level, body.as_slice())?;
-            out.extend_from_slice(b"\n")
-        }
     }
 }
 

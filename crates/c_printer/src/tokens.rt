@@ -1,8 +1,9 @@
 //! Writes words, numbers and indentation.
 
 ghost use Rattle.std.specs.Prelude.{◌≡◌, ◌++◌, OnOk};
-ghost use Rattle.c_printer.specs.Layout.{text, mark, number, suffix, type_name, opening, closing, indent};
+ghost use Rattle.c_printer.specs.Layout.{text, mark, number, suffix, type_name, opening, closing, indent, separator, gap, word, ◌&◌};
 
+use c_tree::name::Name;
 use c_tree::tree::Ty;
 use itoa::Buffer;
 use std::alloc::AllocError;
@@ -55,6 +56,26 @@ pub fn close_round(out: &mut Vec<u8>, needed: bool) -> Result<(), AllocError>
     } else {
         out.extend_from_slice(b"")
     }
+}
+
+/// Writes a comma and a space, before an element of a list that isn't the first.
+pub fn push_separator(out: &mut Vec<u8>, first: bool) -> Result<(), AllocError>
+    ensures { OnOk result (out.new.items ≡ out.old.items ++ text (separator first)) }
+{
+    if first {
+        out.extend_from_slice(b"")
+    } else {
+        out.extend_from_slice(b", ")
+    }
+}
+
+/// Writes a type and the name that is declared.
+pub fn push_declared(out: &mut Vec<u8>, ty: Ty, name: &Name) -> Result<(), AllocError>
+    ensures { OnOk result (out.new.items ≡ out.old.items ++ text (type_name ty & gap & word name.now)) }
+{
+    push_type(out, ty)?;
+    out.extend_from_slice(b" ")?;
+    out.extend_from_slice(name.bytes())
 }
 
 /// Writes four spaces for each level.
