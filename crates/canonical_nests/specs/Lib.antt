@@ -6,3 +6,4 @@ pub mod Constructs
 pub mod LoopRules
 pub mod Examples
 pub mod Admitted
+pub mod Canonical

@@ -2,7 +2,7 @@
 -- adds for the loops that it and its items generate. It bounds the size of the translated program, and is this
 -- profile's own.
 use Rattle.std.specs.Prelude.{ℕ, zero, suc, ◌+◌, ◌*◌, ◌^◌, min, List, [], ◌∷◌, length, Option, Some, None}
-use Rattle.c_tree.specs.Bare.{Expr, num, read, item, un, bin, cond, cast, Exprs, no_exprs, more_exprs, Target, target, Stmt, decl, set, step, print, input, if_, if_else, while_, do_, for_, block, omp, call, Stmts, no_stmts, more_stmts, MaybeStmt, no_stmt, a_stmt, head, Top, global, function, main, Program}
+use Rattle.c_tree.specs.Bare.{Directive, directive, Clauses, no_clauses, more_clauses, Clause, sizes, permutation, counts, looprange, full, partial, apply, Items, no_items, more_items, Item, nothing, acts, Expr, num, read, item, un, bin, cond, cast, Exprs, no_exprs, more_exprs, Target, target, Stmt, decl, set, step, print, input, if_, if_else, while_, do_, for_, block, omp, call, Stmts, no_stmts, more_stmts, MaybeStmt, no_stmt, a_stmt, head, Top, global, function, main, Program}
 use Rattle.c_semantics.specs.Meaning.State.{scalar, State, with_frame, with_globals, nowhere}
 use Rattle.c_semantics.specs.Meaning.Expressions.{Define}
 use Rattle.c_semantics.specs.Meaning.FileVariables.{defines_with}
@@ -43,13 +43,30 @@ target_weight (target x es) = exprs_weight es
 -- ---- directives
 
 abbrev mutual
-  -- 40 times 1 and the generated loops, of a directive and all its items
-  pub added_weight : Plan → ℕ
-  added_weight (plan c w) = 40 * (1 + generated c) + applied_weight w
+  -- 40 times 1 and the generated loops, of a directive and of all its items
+  pub added_weight : Directive → ℕ
+  added_weight (directive k cs) = 40 * (1 + generated k cs) + clauses_weight cs
 
-  pub applied_weight : Applied → ℕ
-  applied_weight none_applied = 0
-  applied_weight (applied_at p d w) = added_weight d + applied_weight w
+  pub clauses_weight : Clauses → ℕ
+  clauses_weight no_clauses = 0
+  clauses_weight (more_clauses c cs) = clause_weight c + clauses_weight cs
+
+  pub clause_weight : Clause → ℕ
+  clause_weight (sizes es) = 0
+  clause_weight (permutation es) = 0
+  clause_weight (counts cs) = 0
+  clause_weight (looprange first count) = 0
+  clause_weight full = 0
+  clause_weight (partial factor) = 0
+  clause_weight (apply m es is) = items_weight is
+
+  pub items_weight : Items → ℕ
+  items_weight no_items = 0
+  items_weight (more_items i is) = item_weight i + items_weight is
+
+  pub item_weight : Item → ℕ
+  item_weight nothing = 0
+  item_weight (acts d) = added_weight d
 
 -- a full unroll of a loop whose count isn't known has one copy
 abbrev pub count_or_one : CountKind → ℕ
@@ -108,7 +125,7 @@ module _ (ds : List Define) where
     stmt_weight s m (omp d a) =
         let p = plan_of ds d in
         let n = loops_asked p m in
-        copies p 0 (body_kinds ds s n d a) * (stmts_weight s n a + added_weight p)
+        copies p 0 (body_kinds ds s n d a) * (stmts_weight s n a + added_weight d)
     stmt_weight s m (call f es) = 1 + exprs_weight es
     stmt_weight s m _ = 1
 

@@ -3,6 +3,9 @@
 #![tactic(auto)]
 
 pub mod admitted;
+pub mod canonical;
 pub mod examples;
+pub mod first_directive;
 pub mod nest;
 pub mod rules;
+pub mod tall_height;
