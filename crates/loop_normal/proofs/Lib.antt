@@ -1,0 +1,13 @@
+pub mod Members
+pub mod Fresh
+pub mod Counted
+pub mod TreeFrames
+pub mod Loops
+pub mod Blocks
+pub mod Weaker
+pub mod Bodies
+pub mod Leaf
+pub mod Counts
+pub mod Values
+pub mod Lets
+pub mod Rebase

@@ -1,0 +1,7 @@
+pub mod Frames
+pub mod Gens
+pub mod GenOf
+pub mod Templates
+pub mod Denotes
+pub mod FreshNames
+pub mod Laws

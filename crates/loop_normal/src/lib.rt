@@ -1,0 +1,5 @@
+//! Loops in normal form, and what generated code does.
+#![tactic(auto)]
+
+pub mod generated;
+pub mod laws;
