@@ -1,2 +1,12 @@
 pub mod Rests
 pub mod Indents
+pub mod Names
+pub mod Marks
+pub mod Words
+pub mod Cutting
+pub mod Standing
+pub mod Symbols
+pub mod SpelledExprs
+pub mod SpelledStmts
+pub mod SpelledPrograms
+pub mod ReadsBack

@@ -4,3 +4,4 @@ pub mod Directives
 pub mod Statements
 pub mod Programs
 pub mod Examples
+pub mod ReadsBack

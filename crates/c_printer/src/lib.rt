@@ -4,6 +4,7 @@
 mod directives;
 pub mod examples;
 mod expressions;
+pub mod laws;
 pub mod printer;
 mod statements;
 mod tokens;
