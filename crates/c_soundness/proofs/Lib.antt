@@ -1,3 +1,4 @@
+pub mod Checked
 pub mod Files
 pub mod Fits
 pub mod Meets

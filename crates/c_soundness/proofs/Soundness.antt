@@ -156,6 +156,6 @@ items_met n (main a ∷ is) k env Runs s h w plain empty filed =
     )
 
 pub never_stuck : NeverStuck
-never_stuck n q numbers w h plain =
+never_stuck q w h plain n numbers =
     items_met n q nothing_known no_env (λ x s. ⊥) (record { frame = []; globals = []; lines = []; input = numbers; turns = 0 }) h w.0 plain refl
     (record { fits = λ y. tt; keeps = λ y. tt; outside = refl; noted = λ y r. absurd (cc); declared = λ y r. absurd (cc) })

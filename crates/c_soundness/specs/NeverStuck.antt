@@ -170,7 +170,10 @@ PlainProgram (function x ps a ∷ is) = AllPlain a × PlainProgram is
 PlainProgram (main a ∷ is) = AllPlain a × PlainProgram is
 PlainProgram (_ ∷ is) = PlainProgram is
 
--- a run of a well-formed program that breaks no name rule and has no directive meets none, at any bound
+-- where it has no directive, no run of the program meets one, at any bound
+abbrev pub IsNeverStuck : Program → Type 0
+IsNeverStuck p = PlainProgram p → (n : ℕ) (numbers : List ℤ) → RunMeetsNone n p numbers
+
+-- a well-formed program that breaks no name rule is never stuck
 abbrev pub NeverStuck : Type 0
-NeverStuck =
-    (n : ℕ) (p : Program) (numbers : List ℤ) → WellFormed p → BreaksNone p → PlainProgram p → RunMeetsNone n p numbers
+NeverStuck = (p : Program) → WellFormed p → BreaksNone p → IsNeverStuck p
