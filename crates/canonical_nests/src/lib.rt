@@ -4,6 +4,7 @@
 
 pub mod admitted;
 pub mod canonical;
+pub mod clauses;
 pub mod depths;
 pub mod examples;
 pub mod first_directive;
