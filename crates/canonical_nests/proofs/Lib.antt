@@ -3,6 +3,7 @@ pub mod ClauseLists
 pub mod Constants
 pub mod DepthLists
 pub mod FirstDirective
+pub mod FirstOfSort
 pub mod Numbers
 pub mod Reach
 pub mod Statements

@@ -13,3 +13,4 @@ pub mod nest;
 pub mod plan;
 pub mod rules;
 pub mod tall_height;
+pub mod transformation;
