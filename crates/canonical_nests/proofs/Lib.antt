@@ -1,8 +1,10 @@
 pub mod Applied
-pub mod Clauses
+pub mod ClauseLists
 pub mod Constants
 pub mod DepthLists
 pub mod FirstDirective
+pub mod FirstOfSort
+pub mod Numbers
 pub mod Reach
 pub mod Statements
 pub mod Targets

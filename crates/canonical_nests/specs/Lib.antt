@@ -8,3 +8,5 @@ pub mod Examples
 pub mod Admitted
 pub mod Canonical
 pub mod Plans
+pub mod FirstClauses
+pub mod Held

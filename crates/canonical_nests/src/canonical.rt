@@ -166,7 +166,7 @@ fn test_part<'a>(name: &Name, test: &'a Expr) -> Option<TestPart<'a>>
 
 /// The value of a constant expression.
 #[tactic(auto, using(crate::proofs::Constants::constants))]
-fn constant_of(program: &Program, e: &Expr) -> Option<i64>
+pub(crate) fn constant_of(program: &Program, e: &Expr) -> Option<i64>
     requires defines_held { DefinesAreHeld (bare_program program.now) }
     requires literals_held { LiteralsAreHeld (bare_expr e.now) }
     ensures { result ≡ expressions.constant (program_defines (bare_program program.now)) (bare_expr e.now) }

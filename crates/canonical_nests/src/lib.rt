@@ -4,6 +4,7 @@
 
 pub mod admitted;
 pub mod canonical;
+pub mod clauses;
 pub mod depths;
 pub mod examples;
 pub mod first_directive;
@@ -12,3 +13,4 @@ pub mod nest;
 pub mod plan;
 pub mod rules;
 pub mod tall_height;
+pub mod transformation;

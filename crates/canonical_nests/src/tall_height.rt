@@ -11,7 +11,7 @@ use c_tree::height::{directive_height, expr_height, head_height, item_height, st
 use c_tree::tree::{ApplyItem, Clause, ClauseKind, Directive, Expr, Item, Kind, Program, Stmt};
 
 /// How many expressions a list has.
-#[tactic(auto, using(crate::proofs::Clauses::clauses))]
+#[tactic(auto, using(crate::proofs::ClauseLists::clauses))]
 fn count_of(es: &[Expr]) -> u64
     ensures { result ≡ length (expr_list (bare_exprs es.now)) }
 {
@@ -47,7 +47,7 @@ fn own_permutation(clause: &Clause) -> Option<u64>
 }
 
 /// How many sizes the first `sizes` clause has, 0 where there is none.
-#[tactic(auto, using(crate::proofs::Clauses::clauses))]
+#[tactic(auto, using(crate::proofs::ClauseLists::clauses))]
 fn sizes_count(clauses: &[Clause]) -> u64
     ensures { result ≡ length (sizes_in (bare_clauses clauses.now)) }
 {
@@ -60,7 +60,7 @@ fn sizes_count(clauses: &[Clause]) -> u64
 }
 
 /// How many items the first `permutation` clause has, 2 where there is none.
-#[tactic(auto, using(crate::proofs::Clauses::clauses))]
+#[tactic(auto, using(crate::proofs::ClauseLists::clauses))]
 fn permutation_count(clauses: &[Clause]) -> u64
     ensures { result ≡ tall.permutation_length (bare_clauses clauses.now) }
 {
@@ -72,7 +72,7 @@ fn permutation_count(clauses: &[Clause]) -> u64
     2
 }
 
-#[tactic(auto, using(crate::proofs::Clauses::clauses))]
+#[tactic(auto, using(crate::proofs::ClauseLists::clauses))]
 fn is_full(clauses: &[Clause]) -> bool
     ensures { result ≡ full_in (bare_clauses clauses.now) }
 {
@@ -107,7 +107,7 @@ fn added_height(directive: &Directive) -> u64
         .saturating_add(clauses_added(directive.clauses.as_slice()))
 }
 
-#[tactic(auto, using(crate::proofs::Clauses::clauses))]
+#[tactic(auto, using(crate::proofs::ClauseLists::clauses))]
 #[cycle(added_height)]
 fn clauses_added(clauses: &[Clause]) -> u64
     ensures { result ≡ capped (tall.clauses_added (bare_clauses clauses.now)) }
@@ -134,7 +134,7 @@ fn clause_added(clause: &Clause) -> u64
     }
 }
 
-#[tactic(auto, using(crate::proofs::Clauses::clauses))]
+#[tactic(auto, using(crate::proofs::ClauseLists::clauses))]
 #[cycle(added_height)]
 fn items_added(items: &[ApplyItem]) -> u64
     ensures { result ≡ capped (tall.items_added (bare_items items.now)) }
