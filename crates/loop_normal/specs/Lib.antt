@@ -1,6 +1,7 @@
 pub mod Frames
 pub mod Gens
 pub mod GenOf
+pub mod SourceOf
 pub mod Templates
 pub mod DrawnNames
 pub mod Denotes

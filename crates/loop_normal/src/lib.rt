@@ -4,3 +4,5 @@
 pub mod fresh;
 pub mod generated;
 pub mod laws;
+pub mod normal;
+pub mod pieces;
