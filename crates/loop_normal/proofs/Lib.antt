@@ -12,3 +12,5 @@ pub mod Values
 pub mod Lets
 pub mod Rebase
 pub mod Digits
+pub mod Trees
+pub mod Drawn

@@ -1,7 +1,8 @@
 -- Fresh names as they are drawn: `omp_t` followed by a number, counted up past the names that are taken.
-use Rattle.std.specs.Prelude.{ℕ, zero, suc, ◌+◌, List, [], ◌∷◌, ◌++◌, reverse, length, nat_lt, codes, if◌then◌else◌}
+use Rattle.std.specs.Prelude.{◌≡◌, ℕ, zero, suc, ◌+◌, ◌≤◌, false, List, [], ◌∷◌, ◌++◌, reverse, length, nat_lt, codes, if◌then◌else◌}
 use Rattle.c_tree.specs.Bare.{Name}
 use Rattle.c_semantics.specs.Meaning.FileVariables.{has_name}
+use Rattle.c_semantics.specs.Laws.Apart.{Differ}
 use Rattle.loop_normal.specs.Templates.{LoopNames}
 
 -- the names that may not be drawn, and the digits of the next number, as ASCII codes, the least significant first
@@ -51,3 +52,16 @@ loop_names f =
       count = drawn (after_draws 2 f);
       counter = drawn (after_draws 3 f);
     }
+
+-- digits from `0` on, as a number that was counted up has them
+abbrev pub AreDigits : List ℕ → Type 0
+AreDigits [] = Unit {0}
+AreDigits (d ∷ ds) = (48 ≤ d) × AreDigits ds
+
+-- a drawn name isn't taken
+abbrev pub DrawnIsUntaken : Type 0
+DrawnIsUntaken = (f : FreshNames) → AreDigits f.digits → has_name f.taken (drawn f) ≡ false
+
+-- and is none that is drawn later
+abbrev pub DrawnOnce : Type 0
+DrawnOnce = (f : FreshNames) → AreDigits f.digits → (k : ℕ) → Differ (drawn (after_draws (suc k) f)) (drawn f)

@@ -7,3 +7,4 @@ pub mod DrawnNames
 pub mod Denotes
 pub mod FreshNames
 pub mod Laws
+pub mod FromZero

@@ -1,5 +1,5 @@
 -- The texts of generated loops: the normal form of a loop, and a loop that is brought to other bounds.
-use Rattle.std.specs.Prelude.{ℕ, Some, Bool, true, false, ℤ, pos, negsuc, nat_abs}
+use Rattle.std.specs.Prelude.{ℕ, Some, Bool, true, false, ℤ, pos, negsuc, nat_abs, ◌==◌, if◌then◌else◌}
 use Rattle.c_tree.specs.Bare.{Name, Expr, num, read, un, bin, cond, cast, Stmt, decl, block, Stmts, no_stmts, more_stmts}
 use Rattle.c_tree.specs.declared.tree.Ty.{Ty}
 use Rattle.c_tree.specs.declared.tree.Ty.TheVariants.{Long}
@@ -81,9 +81,12 @@ pub record SourceLoop : Type 0 where
   pub step : ℤ
 
 -- `T t0 = L; T t1 = U; long long t2 = the count;` before some more
+abbrev pub front_of : LoopNames → Ty → Expr → Expr → BinOp → ℤ → Stmts → Stmts
+front_of m T lb ub op by rest =
+    more_stmts (decl T m.begin (Some lb)) (more_stmts (decl T m.end (Some ub)) (more_stmts (let_stmt m.count (count_expr op by m.begin m.end)) rest))
+
 abbrev pub source_front : LoopNames → SourceLoop → Stmts → Stmts
-source_front m h rest =
-    more_stmts (decl h.ty m.begin (Some h.lb)) (more_stmts (decl h.ty m.end (Some h.ub)) (more_stmts (let_stmt m.count (count_expr h.test h.step m.begin m.end)) rest))
+source_front m h rest = front_of m h.ty h.lb h.ub h.test h.step rest
 
 -- `T var = its value;`
 abbrev pub source_var : LoopNames → SourceLoop → Stmt
@@ -131,3 +134,18 @@ rebased x y p (gen_loop ls c a b inner) =
 -- a counter p from 0 to the literal, and `long long c = FROM + p;` below it
 abbrev pub fixed : ℕ → Name → GenLoop → GenLoop
 fixed k p (gen_loop ls c a b inner) = gen_loop ls p (ll 0) (ll k) (put_let (let_stmt c (bin Add a (read p))) inner)
+
+-- the literal 0
+abbrev pub is_zero_literal : Expr → Bool
+is_zero_literal (num k Long) = k == 0
+is_zero_literal _ = false
+
+-- the loop of the first part is changed
+abbrev pub on_first : (GenLoop → GenLoop) → Parts → Parts
+on_first f (more_parts (Looped l) ps) = more_parts (Looped (f l)) ps
+on_first f ps = ps
+
+-- the first part is no loop, or a loop from the literal 0
+abbrev pub begins_at_zero : Parts → Bool
+begins_at_zero (more_parts (Looped (gen_loop ls c a b inner)) ps) = is_zero_literal a
+begins_at_zero _ = true

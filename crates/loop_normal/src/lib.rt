@@ -6,3 +6,4 @@ pub mod generated;
 pub mod laws;
 pub mod normal;
 pub mod pieces;
+pub mod ranges;

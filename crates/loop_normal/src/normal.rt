@@ -1,15 +1,24 @@
 //! The normal form of a loop: counted from 0, with its bounds fixed before it.
 
-ghost use Rattle.std.specs.Prelude.{◌≡◌, IfOk, OnOk, nat_abs};
-ghost use Rattle.c_tree.specs.BareOf.{bare_expr};
+ghost use Rattle.std.specs.Prelude.{◌≡◌, IfOk, OnOk, Some, nat_abs};
+ghost use Rattle.c_tree.specs.Bare as b;
+ghost use Rattle.c_tree.specs.BareOf.{bare_expr, bare_stmts};
+ghost use Rattle.loop_normal.specs.Gens as g;
+ghost use Rattle.loop_normal.specs.Gens.{Looped, gen_loop, no_parts, more_parts};
+ghost use Rattle.loop_normal.specs.GenOf.{bare_gen, bare_body, bare_parts};
+ghost use Rattle.loop_normal.specs.SourceOf.{source_of};
 ghost use Rattle.loop_normal.specs.DrawnNames as names;
 ghost use Rattle.loop_normal.specs.Templates as t;
 
 use crate::fresh::Fresh;
-
-use crate::pieces::{binary, cast, choice, literal, negated, read};
+use crate::generated::{Gen, GenBody, GenLoop, GenPart, PartList};
+use crate::pieces::{
+    binary, block, cast, choice, declaration, literal, negated, no_parts, no_stmts, part_before,
+    read, stmt_before,
+};
+use c_tree::boxed::Boxed;
 use c_tree::name::Name;
-use c_tree::tree::{BinOp, Expr, Ty};
+use c_tree::tree::{BinOp, Expr, StmtList, Ty};
 use std::alloc::{AllocError, Global};
 
 /// A canonical loop without its body: the variable with its type, the bounds, the test, which is a comparison, and the
@@ -22,6 +31,16 @@ pub struct OwnedLoop {
     pub ub: Expr,
     pub test: BinOp,
     pub step: i64,
+}
+
+/// What a canonical loop runs through.
+#[derive(Debug, Drop)]
+struct SourceRange {
+    ty: Ty,
+    lb: Expr,
+    ub: Expr,
+    test: BinOp,
+    step: i64,
 }
 
 /// The fresh names of a normal form.
@@ -160,6 +179,100 @@ fn turn_value(
     ensures { IfOk result (λ e. bare_expr e ≡ t.value_expr ty step begin.now counter.now) }
 {
     let from = cast(alloc, Ty::Long, read(alloc, begin)?)?;
-    let way = binary(alloc, BinOp::Mul, read(alloc, counter)?, step_literal(alloc, step)?)?;
+    let way = binary(
+        alloc,
+        BinOp::Mul,
+        read(alloc, counter)?,
+        step_literal(alloc, step)?,
+    )?;
     cast(alloc, ty, binary(alloc, BinOp::Add, from, way)?)
+}
+
+/// The declarations that fix the bounds and the count, before others.
+fn bounds_front(
+    alloc: Global,
+    names: &LoopNames,
+    range: SourceRange,
+    rest: StmtList,
+) -> Result<StmtList, AllocError>
+    ensures { IfOk result (λ front. bare_stmts front ≡ t.front_of (record { begin = names.now.begin; end = names.now.end; count = names.now.count; counter = names.now.counter }) range.ty (bare_expr range.lb) (bare_expr range.ub) range.test range.step (bare_stmts rest)) }
+{
+    let SourceRange {
+        ty,
+        lb,
+        ub,
+        test,
+        step,
+    } = range;
+    let count = trip_count(alloc, test, step, &names.begin, &names.end)?;
+    let rest = stmt_before(declaration(Ty::Long, names.count.copy(alloc)?, count), rest)?;
+    let rest = stmt_before(declaration(ty, names.end.copy(alloc)?, ub), rest)?;
+    stmt_before(declaration(ty, names.begin.copy(alloc)?, lb), rest)
+}
+
+/// One part: a loop whose counter runs from 0 to below the count.
+fn counted_loop(alloc: Global, names: &LoopNames, inner: GenBody) -> Result<PartList, AllocError>
+    ensures { IfOk result (λ parts. bare_parts parts ≡ more_parts (Looped (gen_loop b.no_stmts names.now.counter (t.ll 0) (b.read names.now.count) (bare_body inner))) no_parts) }
+{
+    let counted = GenLoop {
+        lets: no_stmts(alloc),
+        counter: names.counter.copy(alloc)?,
+        from: literal(0),
+        to: read(alloc, &names.count)?,
+        inner,
+    };
+    part_before(GenPart::Loop(Boxed::new(alloc, counted)?), no_parts(alloc))
+}
+
+/// The variable, and the body as a block.
+fn leaf_body(
+    alloc: Global,
+    names: &LoopNames,
+    ty: Ty,
+    var: Name,
+    step: i64,
+    body: StmtList,
+) -> Result<GenBody, AllocError>
+    ensures { IfOk result (λ inner. bare_body inner ≡ g.Seq (more_parts (g.Plain (b.more_stmts (b.decl ty var (Some (t.value_expr ty step names.now.begin names.now.counter))) (t.only (b.block (bare_stmts body))))) no_parts)) }
+{
+    let value = turn_value(alloc, ty, step, &names.begin, &names.counter)?;
+    let list = stmt_before(block(body), no_stmts(alloc))?;
+    let list = stmt_before(declaration(ty, var, value), list)?;
+    let parts = part_before(GenPart::Plain(list), no_parts(alloc))?;
+    Ok(GenBody::Seq(parts))
+}
+
+/// One loop whose iterations are those of a canonical loop: the front has its bounds and its count, and below it stand the
+/// variable and the body as a block. It draws four names.
+///
+/// The step fits the test, no `break` in the body would leave the loop, and the body holds no name that is still to be drawn.
+pub fn normal_leaf(
+    alloc: Global,
+    head: OwnedLoop,
+    body: StmtList,
+    fresh: &mut Fresh,
+) -> Result<Gen, AllocError>
+    ensures template { IfOk result (λ gen. bare_gen gen ≡ t.leaf (names.loop_names fresh.old) (source_of head) (bare_stmts body)) }
+    ensures drawn { OnOk result (fresh.new ≡ names.after_draws 4 fresh.old) }
+{
+    let OwnedLoop {
+        var,
+        ty,
+        lb,
+        ub,
+        test,
+        step,
+    } = head;
+    let drawn = draw_names(fresh)?;
+    let inner = leaf_body(alloc, &drawn, ty, var, step, body)?;
+    let range = SourceRange {
+        ty,
+        lb,
+        ub,
+        test,
+        step,
+    };
+    let front = bounds_front(alloc, &drawn, range, no_stmts(alloc))?;
+    let parts = counted_loop(alloc, &drawn, inner)?;
+    Ok(Gen { front, parts })
 }

@@ -1,11 +1,14 @@
 //! The pieces that generated code is made of. No text spells them, so their places say nothing.
 
-ghost use Rattle.std.specs.Prelude.{◌≡◌, ◌∷◌, ◌++◌, IfOk, Some};
+ghost use Rattle.std.specs.Prelude.{◌≡◌, ◌∷◌, ◌++◌, [], IfOk, Some, MatchOption};
 ghost use Rattle.c_tree.specs.Bare as b;
 ghost use Rattle.c_tree.specs.BareOf.{bare_expr, bare_stmt, bare_stmts};
 ghost use Rattle.c_tree.specs.declared.tree.UnOp.TheVariants.{Neg};
+ghost use Rattle.loop_normal.specs.Gens as g;
+ghost use Rattle.loop_normal.specs.GenOf.{bare_part, bare_parts};
 ghost use Rattle.loop_normal.specs.Templates.{ll};
 
+use crate::generated::{GenPart, PartList};
 use c_tree::boxed::Boxed;
 use c_tree::items::Items;
 use c_tree::name::Name;
@@ -108,6 +111,32 @@ pub fn before<T: Drop>(first: T, rest: Items<T>) -> Result<Items<T>, AllocError>
     Ok(Items::from_items(items))
 }
 
+/// A statement before others.
+pub fn stmt_before(stmt: Stmt, rest: StmtList) -> Result<StmtList, AllocError>
+    ensures { IfOk result (λ list. bare_stmts list ≡ b.more_stmts (bare_stmt stmt) (bare_stmts rest)) }
+{
+    before(stmt, rest)
+}
+
+pub fn no_stmts(alloc: Global) -> StmtList
+    ensures { bare_stmts result ≡ b.no_stmts }
+{
+    StmtList::new(alloc)
+}
+
+/// A part before others.
+pub fn part_before(part: GenPart, rest: PartList) -> Result<PartList, AllocError>
+    ensures { IfOk result (λ list. bare_parts list ≡ g.more_parts (bare_part part) (bare_parts rest)) }
+{
+    before(part, rest)
+}
+
+pub fn no_parts(alloc: Global) -> PartList
+    ensures { bare_parts result ≡ g.no_parts }
+{
+    PartList::new(alloc)
+}
+
 /// The items of both lists. At want of memory all are dropped.
 pub fn joined<T: Drop>(first: Items<T>, second: Items<T>) -> Result<Items<T>, AllocError>
     ensures { IfOk result (λ list. list ≡ first ++ second) }
@@ -116,4 +145,25 @@ pub fn joined<T: Drop>(first: Items<T>, second: Items<T>) -> Result<Items<T>, Al
     let mut more = second.into_items();
     items.append(&mut more)?;
     Ok(Items::from_items(items))
+}
+
+/// The first item and the others, with no memory taken.
+#[tactic(auto, using(crate::proofs::Trees::trees))]
+pub fn split_first<T: Drop>(list: Items<T>) -> Option<(T, Items<T>)>
+    ensures { MatchOption result (list ≡ []) (λ split. list ≡ split.0 ∷ split.1) }
+{
+    let mut items = list.into_items();
+    if items.is_empty() {
+        return None;
+    }
+    let first = items.remove(0);
+    Some((first, Items::from_items(items)))
+}
+
+/// The statements of both lists.
+#[tactic(auto, using(crate::proofs::Trees::trees))]
+pub fn stmts_joined(first: StmtList, second: StmtList) -> Result<StmtList, AllocError>
+    ensures { IfOk result (λ list. bare_stmts list ≡ g.join (bare_stmts first) (bare_stmts second)) }
+{
+    joined(first, second)
 }
