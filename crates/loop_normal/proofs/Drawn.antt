@@ -18,11 +18,11 @@ value (d ∷ ds) = (min d 57 - 48) + 10 * value ds
 
 next_value : (ds : List ℕ) → AreDigits ds → value (next_digits ds) ≡ value ds + 1
 next_value [] h = refl
-next_value (d ∷ ds) h = by (cases_lt d 57)
+next_value (d ∷ ds) h = by (cases_lt d 57) (next_value ds h.1)
   where
-    by : (d < 57) ⊎ (57 ≤ d) → value (if nat_lt d 57 then (d + 1) ∷ ds else 48 ∷ next_digits ds) ≡ (min d 57 - 48) + 10 * value ds + 1
-    by (inl l) = ap (λ t. value (if t then (d + 1) ∷ ds else 48 ∷ next_digits ds)) (lt-ltb d 57 l) ∙ omega (arith, l, h.0)
-    by (inr l) = ap (λ t. value (if t then (d + 1) ∷ ds else 48 ∷ next_digits ds)) (le-ltb d 57 l) ∙ omega (arith, l, next_value ds h.1)
+    by : (d < 57) ⊎ (57 ≤ d) → value (next_digits ds) ≡ value ds + 1 → value (if nat_lt d 57 then (d + 1) ∷ ds else 48 ∷ next_digits ds) ≡ (min d 57 - 48) + 10 * value ds + 1
+    by (inl l) k = ap (λ t. value (if t then (d + 1) ∷ ds else 48 ∷ next_digits ds)) (lt-ltb d 57 l) ∙ omega (arith, l, h.0)
+    by (inr l) k = ap (λ t. value (if t then (d + 1) ∷ ds else 48 ∷ next_digits ds)) (le-ltb d 57 l) ∙ omega (arith, l, k)
 
 next_are : (ds : List ℕ) → AreDigits ds → AreDigits (next_digits ds)
 next_are [] h = (omega arith, tt)
@@ -90,18 +90,19 @@ finds : (k : ℕ) (left taken : List Name) (ds : List ℕ) → AreDigits ds → 
 finds zero [] taken ds h l f = by (has_name taken (numbered ds)) refl
   where
     by : (t : Bool) → has_name taken (numbered ds) ≡ t → t ≡ false
-    by true e = f ds h (omega arith) e
+    by true e = sym (f ds h (omega arith) e)
     by false e = refl
 finds zero (x ∷ left) taken ds h l f = absurd (omega (arith, l))
-finds (suc k) left taken ds h l f = by (has_name taken (numbered ds)) refl
+finds (suc k) left taken ds h l f = by (has_name taken (numbered ds)) refl (λ less m g. finds k less taken (next_digits ds) (next_are ds h) m g)
   where
-    rest : has_name left (numbered ds) ≡ true → has_name taken (numbered (untaken taken k (next_digits ds))) ≡ false
-    rest e = finds k (without (numbered ds) left) taken (next_digits ds) (next_are ds h) (omega (arith, l, shorter (numbered ds) left e))
+    rest : ((less : List Name) → length less ≤ k → ((es : List ℕ) → AreDigits es → value (next_digits ds) ≤ value es → has_name taken (numbered es) ≡ true → has_name less (numbered es) ≡ true) → has_name taken (numbered (untaken taken k (next_digits ds))) ≡ false) → has_name left (numbered ds) ≡ true → has_name taken (numbered (untaken taken k (next_digits ds))) ≡ false
+    rest go e =
+        go (without (numbered ds) left) (omega (arith, l, shorter (numbered ds) left e))
         (λ es g m t. still_there (numbered ds) (numbered es) left (numbers_differ ds es (omega (arith, m, next_value ds h))) (f es g (omega (arith, m, next_value ds h)) t))
 
-    by : (t : Bool) → has_name taken (numbered ds) ≡ t → has_name taken (numbered (if t then untaken taken k (next_digits ds) else ds)) ≡ false
-    by true e = rest (f ds h (omega arith) e)
-    by false e = e
+    by : (t : Bool) → has_name taken (numbered ds) ≡ t → ((less : List Name) → length less ≤ k → ((es : List ℕ) → AreDigits es → value (next_digits ds) ≤ value es → has_name taken (numbered es) ≡ true → has_name less (numbered es) ≡ true) → has_name taken (numbered (untaken taken k (next_digits ds))) ≡ false) → has_name taken (numbered (if t then untaken taken k (next_digits ds) else ds)) ≡ false
+    by true e go = rest go (f ds h (omega arith) e)
+    by false e go = e
 
 pub drawn_is_untaken : DrawnIsUntaken
 drawn_is_untaken f h = finds (length f.taken) f.taken f.taken f.digits h (omega arith) (λ es g m t. t)

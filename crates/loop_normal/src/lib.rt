@@ -6,4 +6,3 @@ pub mod generated;
 pub mod laws;
 pub mod normal;
 pub mod pieces;
-pub mod ranges;

@@ -2,8 +2,8 @@
 use Rattle.loop_normal.proofs.Drawn.{drawn_is_untaken, drawn_once}
 use Rattle.loop_normal.proofs.laws.drawn_names_are_new.Goals as goal
 
-pub returns-untaken : goal.returns-untaken
-returns-untaken _ = drawn_is_untaken
+pub returns-clause-untaken : goal.returns-clause-untaken
+returns-clause-untaken _ = drawn_is_untaken
 
-pub returns-once : goal.returns-once
-returns-once _ = drawn_once
+pub returns-clause-once : goal.returns-clause-once
+returns-clause-once _ = drawn_once
