@@ -25,7 +25,7 @@ use Rattle.loop_normal.specs.Templates.{ll, LoopNames, SourceLoop, leaf, source_
 use Rattle.loop_normal.specs.Denotes.{Calm, GrowsFrame, BodyGrows, GenMeans}
 use Rattle.loop_normal.specs.FreshNames.{Among, Apart, AreApart}
 use Rattle.loop_normal.specs.Laws.{source_loop}
-use Rattle.loop_normal.proofs.Fresh.{same_name, differ_sym, find_append, not_none}
+use Rattle.loop_normal.proofs.FreshFrames.{same_name, differ_sym, find_append, not_none}
 use Rattle.loop_normal.proofs.Blocks.{gen_runs}
 use Rattle.loop_normal.proofs.Leaf.{leaf_means}
 use Rattle.loop_normal.proofs.Values.{worth}

@@ -14,7 +14,7 @@ use Rattle.loop_normal.specs.Gens.{GenLoop, gen_loop, Inner, Nest, Seq, Part, Lo
 use Rattle.loop_normal.specs.Frames.{above, run_above, long, Agrees, Foreign}
 use Rattle.loop_normal.specs.Denotes.{Calm, LetsRun, Turns, LoopMeans, InnerMeans, Acts, LetsApart, lets_of, PartMeans, PartsMean, GenMeans}
 use Rattle.loop_normal.proofs.TreeFrames.{tree_exact}
-use Rattle.loop_normal.proofs.Fresh.{agrees_then, agrees_push, agrees_new, agrees_same, keep_append}
+use Rattle.loop_normal.proofs.FreshFrames.{agrees_then, agrees_push, agrees_new, agrees_same, keep_append}
 use Rattle.loop_normal.proofs.Loops.{tree_settled, run_lets, loop_runs}
 
 pub then_done : (r : Run) → then_do r (ends Next) ≡ r

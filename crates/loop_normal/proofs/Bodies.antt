@@ -21,7 +21,7 @@ use Rattle.c_semantics.proofs.Grows.{LongerFrame, frames_grow, length_keep}
 use Rattle.loop_normal.specs.Frames.{above, run_above, AgreesBut, Foreign}
 use Rattle.loop_normal.specs.Denotes.{GrowsFrame, Turns}
 use Rattle.loop_normal.specs.FreshNames.{NamesNone}
-use Rattle.loop_normal.proofs.Fresh.{agrees_but_top}
+use Rattle.loop_normal.proofs.FreshFrames.{agrees_but_top}
 use Rattle.loop_normal.proofs.Blocks.{then_done}
 
 -- private copies on both sides

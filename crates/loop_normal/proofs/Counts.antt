@@ -17,7 +17,7 @@ use Rattle.c_tree.specs.Arithmetic.{and_then, or_trap, in_range, convert, holds,
 use Rattle.c_semantics.specs.Loops.TripCount.{count, small, turns_over}
 use Rattle.loop_normal.specs.Frames.{above}
 use Rattle.loop_normal.specs.Templates.{strict_count, weak_count, gap, count_expr}
-use Rattle.loop_normal.proofs.Fresh.{look_found}
+use Rattle.loop_normal.proofs.FreshFrames.{look_found}
 
 -- a - b, less 1, over s, and 1 more, as the text has it
 abbrev chain : Result ℤ Trap → ℕ → Result ℤ Trap

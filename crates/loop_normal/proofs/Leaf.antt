@@ -28,7 +28,7 @@ use Rattle.loop_normal.specs.Templates.{LoopNames, count_expr, value_expr, leaf}
 use Rattle.loop_normal.specs.Denotes.{Value, GrowsFrame, GenMeans}
 use Rattle.loop_normal.specs.FreshNames.{Source, NamesNone, AreApart}
 use Rattle.loop_normal.specs.Laws.{source_loop}
-use Rattle.loop_normal.proofs.Fresh.{value_num, value_read, found_top, found_but, find_other, same_name, differ_sym}
+use Rattle.loop_normal.proofs.FreshFrames.{value_num, value_read, found_top, found_but, find_other, same_name, differ_sym}
 use Rattle.loop_normal.proofs.Bodies.{leaf_turns}
 
 -- ---- one after another

@@ -13,7 +13,7 @@ use Rattle.loop_normal.specs.Frames.{long, Agrees, AgreesBut}
 use Rattle.loop_normal.specs.Gens.{join}
 use Rattle.loop_normal.specs.Denotes.{Value, LetsRun, Undeclared}
 use Rattle.loop_normal.specs.FreshNames.{Apart, NewAll}
-use Rattle.loop_normal.proofs.Fresh.{find_other, not_none}
+use Rattle.loop_normal.proofs.FreshFrames.{find_other, not_none}
 
 -- a value is one value
 abbrev number : Result ℤ Trap → ℕ

@@ -1,5 +1,5 @@
 pub mod Members
-pub mod Fresh
+pub mod FreshFrames
 pub mod Counted
 pub mod TreeFrames
 pub mod Loops
@@ -11,3 +11,6 @@ pub mod Counts
 pub mod Values
 pub mod Lets
 pub mod Rebase
+pub mod Digits
+pub mod Trees
+pub mod Drawn

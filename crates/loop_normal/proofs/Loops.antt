@@ -18,7 +18,7 @@ use Rattle.loop_normal.specs.Frames.{above, run_above, long, Agrees, AgreesBut, 
 use Rattle.loop_normal.specs.Denotes.{Calm, Value, LetsRun, Turns}
 use Rattle.loop_normal.proofs.Counted.{AllTurn, counted, bump}
 use Rattle.loop_normal.proofs.TreeFrames.{tree_exact}
-use Rattle.loop_normal.proofs.Fresh.{same_name, agrees_push, agrees_but_top, look_found, keep_append, converts, ranged, found_top}
+use Rattle.loop_normal.proofs.FreshFrames.{same_name, agrees_push, agrees_but_top, look_found, keep_append, converts, ranged, found_top}
 
 -- ---- ends of trees
 

@@ -11,7 +11,7 @@ use Rattle.loop_normal.specs.Frames.{long, Agrees, AgreesBut}
 use Rattle.loop_normal.specs.Gens.{gen_loop, Inner, let_stmt}
 use Rattle.loop_normal.specs.Templates.{ll, only, rebased, fixed}
 use Rattle.loop_normal.specs.Denotes.{Calm, Value, LoopMeans}
-use Rattle.loop_normal.proofs.Fresh.{agrees_same, agrees_then, agrees_push, agrees_new, agrees_but_then, value_in, value_num, value_sub, value_add, value_read, found_but, found_top}
+use Rattle.loop_normal.proofs.FreshFrames.{agrees_same, agrees_then, agrees_push, agrees_new, agrees_but_then, value_in, value_num, value_sub, value_add, value_read, found_but, found_top}
 use Rattle.loop_normal.specs.FreshNames.{NewAll}
 use Rattle.loop_normal.proofs.Weaker.{inner_more, put_let_means}
 use Rattle.loop_normal.proofs.Lets.{agrees_where_new, fresh_push, fresh_after, lets_append}

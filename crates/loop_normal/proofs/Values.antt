@@ -17,7 +17,7 @@ use Rattle.c_semantics.specs.Loops.CanonicalForm.{Canonical, is_step_for, fits_t
 use Rattle.c_semantics.specs.Loops.TripCount.{count, small, turns_over, inclusive}
 use Rattle.loop_normal.specs.Frames.{above}
 use Rattle.loop_normal.specs.Templates.{LoopNames, value_expr}
-use Rattle.loop_normal.proofs.Fresh.{look_found, ranged}
+use Rattle.loop_normal.proofs.FreshFrames.{look_found, ranged}
 use Rattle.loop_normal.proofs.Leaf.{trap_not, held, Worth}
 use Rattle.loop_normal.proofs.Counts.{widens, counts}
 

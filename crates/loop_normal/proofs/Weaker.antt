@@ -14,7 +14,7 @@ use Rattle.loop_normal.specs.Templates.{put_let}
 use Rattle.loop_normal.specs.Frames.{above, long, Agrees, AgreesBut}
 use Rattle.loop_normal.specs.Denotes.{Calm, Value, LetsRun, Turns, LoopMeans, InnerMeans}
 use Rattle.loop_normal.proofs.TreeFrames.{tree_exact}
-use Rattle.loop_normal.proofs.Fresh.{agrees_then, agrees_push, agrees_but_then, value_in}
+use Rattle.loop_normal.proofs.FreshFrames.{agrees_then, agrees_push, agrees_but_then, value_in}
 use Rattle.loop_normal.proofs.Loops.{declare}
 
 drop_next : {A : Type 0} (i : ℕ) (l : List A) (a : A) (m : List A) → drop i l ≡ a ∷ m → drop (suc i) l ≡ m

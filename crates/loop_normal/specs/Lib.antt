@@ -1,7 +1,10 @@
 pub mod Frames
 pub mod Gens
 pub mod GenOf
+pub mod SourceOf
 pub mod Templates
+pub mod DrawnNames
 pub mod Denotes
 pub mod FreshNames
 pub mod Laws
+pub mod FromZero

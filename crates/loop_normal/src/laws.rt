@@ -1,5 +1,6 @@
 //! Laws of generated code.
 
+ghost use Rattle.loop_normal.specs.DrawnNames.{DrawnIsUntaken, DrawnOnce};
 ghost use Rattle.loop_normal.specs.Laws.{BlocksRun, LeafDenotes, RebasedDenotes, FixedDenotes};
 
 /// The block of a Gen does what the trees do that it denotes: in every state, with the same lines, variables, input, turns
@@ -22,4 +23,10 @@ pub fn rebased_denotes()
 /// A loop whose count is known denotes the same with that count as its end.
 pub fn fixed_denotes()
     ensures { FixedDenotes }
+{}
+
+/// A drawn name isn't taken, and is none that is drawn later.
+pub fn drawn_names_are_new()
+    ensures untaken { DrawnIsUntaken }
+    ensures once { DrawnOnce }
 {}

@@ -1,5 +1,8 @@
 //! Loops in normal form, and what generated code does.
 #![tactic(auto)]
 
+pub mod fresh;
 pub mod generated;
 pub mod laws;
+pub mod normal;
+pub mod pieces;

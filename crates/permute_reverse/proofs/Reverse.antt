@@ -11,7 +11,7 @@ use Rattle.loop_normal.specs.Frames.{long, Agrees, AgreesBut}
 use Rattle.loop_normal.specs.Gens.{gen_loop, Inner}
 use Rattle.loop_normal.specs.Templates.{ll}
 use Rattle.loop_normal.specs.Denotes.{Calm, Value, LoopMeans, InnerMeans, Undeclared}
-use Rattle.loop_normal.proofs.Fresh.{agrees_same, agrees_push, agrees_new, agrees_but, agrees_but_then, value_in, value_num, value_sub, value_read, found_but, found_top}
+use Rattle.loop_normal.proofs.FreshFrames.{agrees_same, agrees_push, agrees_new, agrees_but, agrees_but_then, value_in, value_num, value_sub, value_read, found_but, found_top}
 use Rattle.loop_normal.proofs.Members.{to_of, reverse_members}
 use Rattle.loop_normal.proofs.Weaker.{inner_more, put_let_means}
 use Rattle.loop_normal.proofs.Lets.{value_one, agrees_where_new, lets_new}
