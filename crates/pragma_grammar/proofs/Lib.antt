@@ -21,5 +21,3 @@ pub mod ReadExpr
 pub mod LastToken
 pub mod OneTree
 pub mod Turns
-pub mod WellFormed
-pub mod Lexed
