@@ -7,3 +7,4 @@ pub mod LoopRules
 pub mod Examples
 pub mod Admitted
 pub mod Canonical
+pub mod Plans

@@ -4,8 +4,11 @@
 
 pub mod admitted;
 pub mod canonical;
+pub mod depths;
 pub mod examples;
 pub mod first_directive;
+pub mod need;
 pub mod nest;
+pub mod plan;
 pub mod rules;
 pub mod tall_height;

@@ -8,3 +8,7 @@ pub mod Deep
 pub mod Machine
 pub mod Trees
 pub mod Terminals
+pub mod DirectiveMachine
+pub mod DirectiveTrees
+pub mod Kept
+pub mod Stands
