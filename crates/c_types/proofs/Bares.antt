@@ -1,6 +1,4 @@
 -- The bare tree of an expression and its tree with places, and what is well formed there.
-use Rattle.std.proofs.Common.{◌≡◌, sym, Option, Some, None}
-use Rattle.std.specs.Option.{option_map}
 use Rattle.c_tree.specs.Bare.{Expr, num, read, item, un, bin, cond, cast, Exprs, no_exprs, more_exprs}
 use Rattle.c_tree.specs.Constants.{LiteralsAreHeld, EachLiteralIsHeld}
 use Rattle.c_tree.specs.WellFormed.{WellFormedExpr, WellFormedExprs}

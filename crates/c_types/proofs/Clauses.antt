@@ -1,5 +1,5 @@
 -- What a loop over the parts of a directive has left.
-use Rattle.std.proofs.Common.{◌≡◌, ◌∙◌, sym, ap, ℕ, ◌+◌, ◌<◌, ◌≤◌, List, length, map, drop, slice_index_or, Option, None}
+use Rattle.std.proofs.Common.{◌≡◌, ◌∙◌, sym, ap, ℕ, ◌+◌, ◌<◌, ◌≤◌, List, length, map, drop, slice_index_or, None}
 use Rattle.std.proofs.lemmas.List.{at_drop_more, drop_all}
 use Rattle.c_tree.specs.NameRules.BreachSets.{lesser, least}
 use Rattle.c_tree.specs.NameRules.Scopes.{Scope}

@@ -1,5 +1,5 @@
 -- What a loop over dimensions has left, and products and sums that are counted up to a limit.
-use Rattle.std.proofs.Common.{◌≡◌, ◌∙◌, sym, ap, refl, subst, ℕ, zero, suc, ◌+◌, ◌*◌, ◌<◌, ◌≤◌, ◌≢◌, ◌==◌, nat_lt, ◌⊎◌, inl, inr, min, List, [], ◌∷◌, length, map, drop, slice_index_or, Option, None, arith, ◌^◌}
+use Rattle.std.proofs.Common.{◌≡◌, ◌∙◌, sym, ap, refl, subst, ℕ, zero, suc, ◌+◌, ◌*◌, ◌<◌, ◌≤◌, ◌≢◌, ◌==◌, nat_lt, ◌⊎◌, inl, inr, min, List, [], ◌∷◌, length, drop, slice_index_or, Option, None, arith}
 use Rattle.std.proofs.lemmas.List.{at_drop_more, drop_all}
 use Rattle.std.proofs.lemmas.Bool.{cases_lt}
 use Rattle.std.proofs.Math.Nat.{mul-le-mul_left, mul_assoc}

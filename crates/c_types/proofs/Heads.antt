@@ -1,5 +1,5 @@
 -- A `for` in the tree with places, and a head at its fields.
-use Rattle.std.proofs.Common.{◌≡◌, ◌∙◌, sym, ap, List, map}
+use Rattle.std.proofs.Common.{◌≡◌, ◌∙◌, sym, ap, List}
 use Rattle.c_tree.specs.Placed as p
 use Rattle.c_tree.specs.Placed.{for_}
 use Rattle.c_tree.specs.PlacedOf.{stmt_layer, head_layer, placed_stmt, placed_stmts, placed_head}

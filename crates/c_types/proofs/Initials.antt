@@ -1,5 +1,5 @@
 -- The well-formed parts of an item.
-use Rattle.std.proofs.Common.{◌≡◌, sym, ap, subst, Option, Some, None}
+use Rattle.std.proofs.Common.{sym, subst, Option}
 use Rattle.c_tree.specs.Bare.{Expr, Exprs, no_exprs, more_exprs}
 use Rattle.c_tree.specs.WellFormed.{WellFormedOption, WellFormedInitial}
 

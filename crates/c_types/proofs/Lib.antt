@@ -4,6 +4,7 @@ pub mod Dimensions
 pub mod Heads
 pub mod Initials
 pub mod Lists
+pub mod Lookups
 pub mod Order
 pub mod Params
 pub mod Programs

@@ -1,9 +1,9 @@
 -- The least of several breaches: that of a list is the lesser of what was seen and of what is left.
-use Rattle.std.proofs.Common.{◌≡◌, ◌∙◌, sym, ap, refl, ℕ, suc, ◌+◌, ◌<◌, ◌≤◌, Bool, true, false, if◌then◌else◌, List, [], ◌∷◌, ◌++◌, length, map, drop, slice_index_or, Option, Some, None, arith}
+use Rattle.std.proofs.Common.{◌≡◌, ◌∙◌, sym, ap, refl, ℕ, suc, ◌+◌, ◌<◌, ◌≤◌, Bool, true, false, if◌then◌else◌, List, [], ◌∷◌, length, drop, slice_index_or, Option, Some, None, arith}
 use Rattle.std.proofs.lemmas.Bool.Decides.{nat_tests}
 use Rattle.std.proofs.lemmas.List.{at_drop_more, drop_all}
 use Rattle.c_tree.specs.declared.name_rule.Breach.{Breach}
-use Rattle.c_tree.specs.NameRules.BreachSets.{BreachSet, none, one, ◌&◌, HasNone, is_before, rule_number, lesser, least}
+use Rattle.c_tree.specs.NameRules.BreachSets.{BreachSet, none, one, ◌&◌, HasNone, is_before, lesser, least}
 use Rattle.c_tree.specs.NameRules.Scopes.{Scope}
 use Rattle.c_tree.specs.NameRules.Breaches.{expr_breaches, exprs_breaches}
 use Rattle.c_tree.specs.Placed as p

@@ -1,17 +1,16 @@
 -- What a loop over parameters has left, and that parameters stay within their scope.
-use Rattle.std.proofs.Common.{◌≡◌, ◌∙◌, sym, ap, refl, ℕ, ◌+◌, ◌<◌, ◌≤◌, List, [], ◌∷◌, ◌++◌, length, map, drop, slice_index_or, Option, None}
+use Rattle.std.proofs.Common.{◌≡◌, ◌∙◌, sym, ap, refl, ℕ, ◌+◌, ◌<◌, ◌≤◌, List, [], ◌∷◌, length, map, drop, slice_index_or, None}
 use Rattle.std.proofs.lemmas.List.{at_drop_more, drop_all}
 use Rattle.c_tree.specs.Bare.{Name}
 use Rattle.c_tree.specs.Placed as p
 use Rattle.c_tree.specs.PlacedOf.{placed_param}
 use Rattle.c_tree.specs.NameRules.BreachSets.{lesser, least}
-use Rattle.c_tree.specs.NameRules.Scopes.{Scope, inner, declare, a_scalar, with_params}
+use Rattle.c_tree.specs.NameRules.Scopes.{Scope, declare, a_scalar, with_params}
 use Rattle.c_tree.specs.NameRules.DeclaredNames as names
 use Rattle.c_tree.specs.NameRules.DeclaredNames.{with_name}
 use Rattle.c_tree.specs.NameRules.Breaches.{declare_breaches}
-use Rattle.c_tree.specs.NameRules.Programs.{Known, params_breaches}
+use Rattle.c_tree.specs.NameRules.Programs.{params_breaches}
 use Rattle.c_tree.specs.declared.tree.Param.{Param}
-use Rattle.c_types.specs.Visible.{scope_left}
 use Rattle.c_types.proofs.Order.{lesser_joins, lesser_none}
 use Rattle.c_types.proofs.Scopes.{left_scope, declare_outside, declare_print, declare_input, known_with, after_leaving}
 

@@ -1,9 +1,9 @@
 -- Statements of a scope leave the scopes round it as they were, so that leaving it gives back the one that it was
 -- entered in.
-use Rattle.std.proofs.Common.{◌≡◌, ◌∙◌, sym, ap, refl, ℕ, ◌+◌, ◌-◌, ◌≤◌, Bool, true, false, if◌then◌else◌, List, [], ◌∷◌, ◌++◌, length, take, drop, arith, length-append}
+use Rattle.std.proofs.Common.{◌≡◌, ◌∙◌, ap, refl, ℕ, ◌-◌, ◌≤◌, Bool, true, false, if◌then◌else◌, List, ◌++◌, length, take, drop, arith, length-append}
 use Rattle.std.proofs.Math.Seq.{take-append_seam, drop-append_seam}
 use Rattle.c_tree.specs.Bare.{Name}
-use Rattle.c_tree.specs.Placed.{Stmt, decl, set, step, print, input, if_, if_else, while_, do_, for_, block, break_, continue_, empty, omp, call, MaybeStmt, no_stmt, a_stmt, Head, head}
+use Rattle.c_tree.specs.Placed.{Stmt, decl, MaybeStmt, no_stmt, a_stmt, Head, head}
 use Rattle.c_tree.specs.NameRules.Scopes.{Scope, inner, is_taken, add, declare, after_stmt, after_part, after_head}
 use Rattle.c_tree.specs.declared.name_rule.Declaration.{Declaration}
 use Rattle.c_tree.specs.declared.name_rule.Entity.{Entity}

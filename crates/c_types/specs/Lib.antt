@@ -1,2 +1,4 @@
 pub mod Answers
+pub mod Lookup
+pub mod Noted
 pub mod Visible

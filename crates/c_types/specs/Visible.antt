@@ -7,18 +7,18 @@ use Rattle.c_types.specs.declared.known.Table.TheInside.{Inside}
 -- the latest declaration stands last, and those of the present scope begin at `start`
 abbrev pub scope_of : Inside → Scope
 scope_of t = record {
-  here = reverse (drop t.start t.declared.items);
-  outside = reverse (take t.start t.declared.items);
+  here = reverse (drop t.start t.declared.declarations);
+  outside = reverse (take t.start t.declared.declarations);
   print_known = t.print_known;
   input_known = t.input_known;
 }
 
 abbrev pub known_of : Inside → Known
-known_of t = record { scope = scope_of t; names = t.names.items; elements = t.elements }
+known_of t = record { scope = scope_of t; names = t.declared.names; elements = t.elements }
 
 -- the present scope begins within the declarations, and the elements are counted up to one more than the limit
 pub record IsTable (t : Inside) : Type 0 where
-  pub start : t.start ≤ length t.declared.items
+  pub start : t.start ≤ length t.declared.declarations
   pub elements : t.elements ≤ most_elements + 1
 
 -- the scope in which this one was entered, where so many declarations stand round that one

@@ -7,9 +7,10 @@ ghost use Rattle.c_tree.specs.NameRules.Programs as programs;
 ghost use Rattle.c_tree.specs.NameRules.DeclaredNames as names;
 ghost use Rattle.c_types.specs.Visible.{scope_left};
 
+use crate::declarations::Declarations;
 use c_tree::constant::{Defines, TypedValue};
 use c_tree::name::Name;
-use c_tree::name_rule::{Declaration, Entity};
+use c_tree::name_rule::Entity;
 use c_tree::tree::Port;
 use std::alloc::{AllocError, Global};
 use std::marker::Model;
@@ -17,13 +18,10 @@ use std::marker::Model;
 /// What is known at a place.
 #[derive(Drop)]
 pub struct Table {
-    alloc: Global,
-    /// The visible declarations, the latest last.
-    declared: Vec<Declaration>,
+    /// The visible declarations, and each name that was declared or defined in any scope.
+    declared: Declarations,
     /// Where the declarations of the present scope begin.
     start: usize,
-    /// Each name that was declared or defined in any scope.
-    names: Vec<Name>,
     print_known: bool,
     input_known: bool,
     /// The elements of all arrays, where one more than the limit stands for any greater number.
@@ -48,10 +46,8 @@ impl Table {
         ensures { result ≡ programs.nothing_known }
     {
         Table {
-            alloc,
-            declared: Vec::new(alloc),
+            declared: Declarations::new(alloc),
             start: 0,
-            names: Vec::new(alloc),
             print_known: false,
             input_known: false,
             elements: 0,
@@ -59,21 +55,18 @@ impl Table {
     }
 
     /// What a name means, and `None` exactly where nothing makes it visible.
+    #[tactic(auto, using(crate::proofs::Tables::tables))]
     pub fn meaning(&self, name: &Name) -> Option<Entity>
         ensures { result ≡ scopes.meaning self.now.scope name.now }
     {
-        let (outside, here) = self.declared.as_slice().split_at(self.start);
-        match find(here, name) {
-            None => find(outside, name),
-            found => found,
-        }
+        self.declared.meaning(name)
     }
 
     /// Whether a name is declared in this scope already or is a define.
     pub fn is_taken(&self, name: &Name) -> bool
         ensures { result ≡ scopes.is_taken self.now.scope name.now }
     {
-        find(&self.declared[self.start..], name).is_some()
+        self.declared.is_since(name, self.start)
             || matches!(self.meaning(name), Some(Entity::Define(_)))
     }
 
@@ -81,7 +74,7 @@ impl Table {
     pub fn is_among(&self, name: &Name) -> bool
         ensures { result ≡ names.is_among name.now self.now.names }
     {
-        self.names.iter().any(|known| name == known)
+        self.declared.is_among(name)
     }
 
     pub fn print_known(&self) -> bool
@@ -121,29 +114,21 @@ impl Table {
         }
     }
 
-    #[tactic(auto, using(crate::proofs::Tables::tables))]
     fn note(&mut self, name: &Name) -> Result<(), AllocError>
         ensures { OnOk result (self.new ≡ record self.old { names = names.with_name name.now self.old.names }) }
     {
-        if !self.is_among(name) {
-            self.names.push(name.copy(self.alloc)?)?;
-        }
-        Ok(())
+        self.declared.note(name)
     }
 
     /// Makes a name visible in this scope.
+    #[tactic(auto, using(crate::proofs::Tables::tables))]
     pub fn add(&mut self, name: &Name, entity: Entity) -> Result<(), AllocError>
         ensures { OnOk result (self.new ≡ record self.old {
           scope = scopes.add name.now entity self.old.scope;
           names = names.with_name name.now self.old.names;
         }) }
     {
-        self.note(name)?;
-        self.declared.push(Declaration {
-            name: name.copy(self.alloc)?,
-            entity,
-        })?;
-        Ok(())
+        self.declared.add(name, entity)
     }
 
     /// Declares a name in this scope, where nothing forbids it.
@@ -198,22 +183,6 @@ impl Table {
         self.declared.truncate(self.start);
         self.start = round;
     }
-}
-
-/// What the last declaration of a name stands for.
-#[tactic(auto, using(crate::proofs::Tables::tables))]
-fn find(declared: &[Declaration], name: &Name) -> Option<Entity>
-    ensures { result ≡ scopes.find name.now (reverse declared.now) }
-{
-    let mut left = declared.len();
-    'each: while left > 0 {
-        left -= 1;
-        let declaration = &declared[left];
-        if name == &declaration.name {
-            return Some(declaration.entity);
-        }
-    }
-    None
 }
 
 impl Defines for Table {

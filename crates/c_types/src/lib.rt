@@ -2,6 +2,7 @@
 #![tactic(auto)]
 
 pub mod check;
+pub mod declarations;
 pub mod expressions;
 pub mod items;
 pub mod known;

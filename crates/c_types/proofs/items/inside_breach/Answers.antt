@@ -1,6 +1,5 @@
 -- The scopes round a function are still there when its body ends.
 use Rattle.std.proofs.Common.{◌≡◌, ◌++◌, ◌∙◌, ap, length, length-append, arith}
-use Rattle.c_tree.specs.NameRules.Scopes.{inner}
 use Rattle.c_tree.specs.PlacedOf.{placed_param}
 use Rattle.std.specs.Prelude.{map}
 use Rattle.c_types.proofs.Params.{params_outside}

@@ -1,12 +1,11 @@
 use Rattle.std.proofs.Common.{◌≡◌, ◌∙◌, sym, ap, ◌+◌, max, List, drop, rules}
 use Rattle.c_tree.specs.Bare.{Name}
-use Rattle.c_tree.specs.NameRules.Scopes.{Scope, after_stmt}
+use Rattle.c_tree.specs.NameRules.Scopes.{after_stmt}
 use Rattle.c_tree.specs.NameRules.DeclaredNames.{with_stmt, with_stmts, with_head}
 use Rattle.c_tree.specs.NameRules.CallDepth.{deepest_calls}
 use Rattle.c_tree.specs.NameRules.Breaches.{stmts_breaches}
 use Rattle.c_tree.specs.NameRules.BreachSets.{lesser, least}
 use Rattle.c_tree.specs.Placed.{Head, Stmts, for_}
-use Rattle.c_tree.specs.NameRules.Programs.{Known}
 use Rattle.c_tree.specs.PlacedOf.{placed_stmt, placed_stmts, placed_head}
 use Rattle.c_types.proofs.Heads.{placed_for}
 use Rattle.c_types.proofs.Lists.{breach_step, depth_step, names_step}

@@ -1,0 +1,13 @@
+//! Expressions and directives: the grammar's relation between tokens and trees, and the readers that are exact by it.
+#![tactic(auto)]
+
+mod blame;
+pub mod expression;
+pub mod laws;
+mod open_phrase;
+mod operand;
+mod operators;
+pub mod phrase;
+mod reading;
+pub mod terminal;
+pub mod words;
