@@ -1,0 +1,13 @@
+pub mod Assignments
+pub mod Calls
+pub mod Growth
+pub mod LineText
+pub mod Lists
+pub mod Nodes
+pub mod Places
+pub mod Running
+pub mod Scopes
+pub mod States
+pub mod Values
+pub mod Steps
+pub mod Variables

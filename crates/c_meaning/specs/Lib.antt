@@ -1,0 +1,12 @@
+pub mod Functions
+pub mod Ends
+pub mod Loops
+pub mod Machines
+pub mod Plain
+pub mod Runnable
+pub mod Running
+pub mod Scopes
+pub mod Sizes
+pub mod States
+pub mod Values
+pub mod Variables

@@ -1,0 +1,30 @@
+-- What a loop of the code stands for.
+use Rattle.std.specs.Prelude.{ℕ, Option, Some, None, Bool, true, false}
+use Rattle.std.specs.Option.{option_map, option_copied}
+use Rattle.c_tree.specs.Bare.{Expr, MaybeStmt}
+use Rattle.c_tree.specs.BareOf.{bare_expr, bare_stmt, bare_stmts, maybe_stmt}
+use Rattle.c_tree.specs.WellFormed.{WellFormedOption}
+use Rattle.c_semantics.specs.Meaning.Runs.{Meaning, turn_of, for_turn}
+use Rattle.c_semantics.specs.Meaning.SimpleStatements.{Env}
+use Rattle.c_semantics.specs.Meaning.Statements.{exec_all, exec_maybe}
+use Rattle.c_meaning.specs.declared.loops.Loop.{Loop}
+use Rattle.c_meaning.specs.Runnable.{RunnableStmts, RunnablePart}
+
+abbrev pub test_of : Loop → Option Expr
+test_of l = option_map bare_expr (option_copied l.test)
+
+abbrev pub next_of : Loop → MaybeStmt
+next_of l = maybe_stmt (option_map bare_stmt (option_copied l.next))
+
+-- a turn of a `for`, or of another loop
+abbrev pub counted_turn : Bool → Meaning → Meaning → Meaning
+counted_turn true f next = for_turn f next
+counted_turn false f next = turn_of f
+
+abbrev pub turn_in : ℕ → Env → Loop → Meaning
+turn_in n env l = counted_turn l.counts (exec_all n env (bare_stmts l.body.now)) (exec_maybe n env (next_of l))
+
+pub record RunnableLoop (l : Loop) : Type 0 where
+  pub test : WellFormedOption (test_of l)
+  pub body : RunnableStmts (bare_stmts l.body.now)
+  pub next : RunnablePart (next_of l)

@@ -1,0 +1,13 @@
+//! The machine of a run: its variables, expressions, and statements without parts of their own, exactly as their meaning
+//! is defined.
+#![tactic(auto)]
+
+pub mod expressions;
+pub mod functions;
+pub mod lines;
+pub mod loops;
+pub mod machine;
+pub mod run;
+pub mod scope;
+pub mod simple;
+pub mod variable;
