@@ -9,3 +9,5 @@ pub mod Trees
 pub mod Terminals
 pub mod DirectiveMachine
 pub mod DirectiveTrees
+pub mod DirectiveKept
+pub mod DirectiveStands
