@@ -75,14 +75,14 @@ added_kept : (p : Part) (cs : _) (ks : _) (w : Span) (k : List Open) → keep_cl
 added_kept p cs ks w k q = ap (λ z. machine.added keeps (keep_part p) z w (keep_opens k)) q
 
 close_kept : (o : Open) (z : Span) (k : List Open) → keep_move (machine.close_apply trees o z k) ≡ machine.close_apply keeps (keep_open o) z (keep_opens k)
-close_kept o z k = added_kept o.part _ _ (spanning o.at z) k (keep_add_apply o.part.clauses o.modifier o.indices o.items (spanning o.at z))
+close_kept o z k = added_kept o.part (trees.add_apply o.part.clauses o.modifier o.indices o.items (spanning o.at z)) _ (spanning o.at z) k (keep_add_apply o.part.clauses o.modifier o.indices o.items (spanning o.at z))
 
 word_kept : (w : ClauseWord) (a : Span) (p : Part) (k : List Open) → keep_move (machine.word_read trees w a p k) ≡ machine.word_read keeps w a (keep_part p) (keep_opens k)
 word_kept word.Sizes a p k = refl
 word_kept word.Permutation a p k = refl
 word_kept word.Counts a p k = refl
 word_kept word.LoopRange a p k = refl
-word_kept word.Full a p k = added_kept p _ _ a k (keep_add_full p.clauses a)
+word_kept word.Full a p k = added_kept p (trees.add_full p.clauses a) _ a k (keep_add_full p.clauses a)
 word_kept word.Partial a p k = refl
 word_kept word.Apply a p k = refl
 
@@ -152,8 +152,8 @@ want_kept (count cs) a p k t = fill_kept cs a p k t
 want_kept asked a p k t = refl
 
 end_list_kept : (l : Lists) (es : Exprs) (z a : Span) (p : Part) (k : List Open) → keep_move (machine.end_list trees l es z a p k) ≡ machine.end_list keeps l (keep_exprs es) z a (keep_part p) (keep_opens k)
-end_list_kept sizes es z a p k = added_kept p _ _ (spanning a z) k (keep_add_sizes p.clauses es (spanning a z))
-end_list_kept permutation es z a p k = added_kept p _ _ (spanning a z) k (keep_add_permutation p.clauses es (spanning a z))
+end_list_kept sizes es z a p k = added_kept p (trees.add_sizes p.clauses es (spanning a z)) _ (spanning a z) k (keep_add_sizes p.clauses es (spanning a z))
+end_list_kept permutation es z a p k = added_kept p (trees.add_permutation p.clauses es (spanning a z)) _ (spanning a z) k (keep_add_permutation p.clauses es (spanning a z))
 end_list_kept (indices m) es z a p k = refl
 
 list_kept : (l : Lists) (es : Exprs) (a : Span) (p : Part) (k : List Open) (t : Symbol) → keep_move (machine.list_step trees l es a p k t) ≡ machine.list_step keeps l (keep_exprs es) a (keep_part p) (keep_opens k) t
@@ -163,7 +163,7 @@ list_kept l es a p k t = refl
 
 count_kept : (cs : List Count) (a : Span) (p : Part) (k : List Open) (t : Symbol) → keep_move (machine.count_step trees cs a p k t) ≡ machine.count_step keeps (keep_counts cs) a (keep_part p) (keep_opens k) t
 count_kept cs a p k (punct Comma z) = refl
-count_kept cs a p k (punct RoundClose z) = added_kept p _ _ (spanning a z) k (keep_add_counts p.clauses cs (spanning a z))
+count_kept cs a p k (punct RoundClose z) = added_kept p (trees.add_counts p.clauses cs (spanning a z)) _ (spanning a z) k (keep_add_counts p.clauses cs (spanning a z))
 count_kept cs a p k t = refl
 
 first_kept : (e : Expr) (a : Span) (p : Part) (k : List Open) (t : Symbol) → keep_move (machine.first_step trees e a p k t) ≡ machine.first_step keeps (keep_expr e) a (keep_part p) (keep_opens k) t
@@ -171,11 +171,11 @@ first_kept e a p k (punct Comma z) = refl
 first_kept e a p k t = refl
 
 range_kept : (e f : Expr) (a : Span) (p : Part) (k : List Open) (t : Symbol) → keep_move (machine.range_step trees e f a p k t) ≡ machine.range_step keeps (keep_expr e) (keep_expr f) a (keep_part p) (keep_opens k) t
-range_kept e f a p k (punct RoundClose z) = added_kept p _ _ (spanning a z) k (keep_add_range p.clauses e f (spanning a z))
+range_kept e f a p k (punct RoundClose z) = added_kept p (trees.add_range p.clauses e f (spanning a z)) _ (spanning a z) k (keep_add_range p.clauses e f (spanning a z))
 range_kept e f a p k t = refl
 
 factor_kept : (e : Expr) (a : Span) (p : Part) (k : List Open) (t : Symbol) → keep_move (machine.factor_step trees e a p k t) ≡ machine.factor_step keeps (keep_expr e) a (keep_part p) (keep_opens k) t
-factor_kept e a p k (punct RoundClose z) = added_kept p _ _ (spanning a z) k (keep_add_factor p.clauses e (spanning a z))
+factor_kept e a p k (punct RoundClose z) = added_kept p (trees.add_factor p.clauses e (spanning a z)) _ (spanning a z) k (keep_add_factor p.clauses e (spanning a z))
 factor_kept e a p k t = refl
 
 have_kept : (held : Held) (a : Span) (p : Part) (k : List Open) (t : Symbol) → keep_move (machine.have_step trees held a p k t) ≡ machine.have_step keeps (keep_held held) a (keep_part p) (keep_opens k) t

@@ -1,6 +1,6 @@
 -- The reader's lists with one more, and its list of open clauses, whose last one is the innermost.
 use Rattle.std.proofs.Common.{◌≡◌, List, [], ◌∷◌, ◌++◌, Option, Some, None, refl, sym, ap, ◌∙◌}
-use Rattle.std.specs.Prelude.{option_to_list}
+use Rattle.std.specs.Prelude.{max, option_to_list}
 use Rattle.c_tree.specs.Placed as placed
 use Rattle.c_tree.specs.PlacedOf.{placed_expr, placed_exprs, placed_clause, placed_clauses, placed_item, placed_items}
 use Rattle.c_tree.specs.declared.tree.Span.{Span}
@@ -29,17 +29,17 @@ more_clauses [] c = refl
 more_clauses (x ∷ xs) c = ap (placed.more_clauses (placed_clause x)) (more_clauses xs c)
 
 pub exprs_pushed : (l : code.Kept (List Expr)) (e : code.Kept Expr) → exprs_of (pushed l e) ≡ both join_last (exprs_of l) (expr_of e)
-exprs_pushed (Whole xs g) (Whole x h) = ap (λ z. kept _ z) (more_exprs xs x)
+exprs_pushed (Whole xs g) (Whole x h) = ap (λ z. kept (max g h) z) (more_exprs xs x)
 exprs_pushed (Whole xs g) (Deep p) = refl
 exprs_pushed (Deep p) e = refl
 
 pub items_pushed : (l : code.Kept (List ApplyItem)) (i : code.Kept ApplyItem) → items_of (pushed l i) ≡ both add_item (items_of l) (item_of i)
-items_pushed (Whole xs g) (Whole x h) = ap (λ z. kept _ z) (more_items xs x)
+items_pushed (Whole xs g) (Whole x h) = ap (λ z. kept (max g h) z) (more_items xs x)
 items_pushed (Whole xs g) (Deep p) = refl
 items_pushed (Deep p) e = refl
 
 pub clauses_pushed : (l : code.Kept (List Clause)) (k : code.Kept ClauseKind) (s : Span) → clauses_of (pushed l (clause_at k s)) ≡ add_kept (clauses_of l) (clause_kind_of k) s
-clauses_pushed (Whole xs g) (Whole x h) s = ap (λ z. kept _ z) (more_clauses xs (record { kind = x; span = s }))
+clauses_pushed (Whole xs g) (Whole x h) s = ap (λ z. kept (max g h) z) (more_clauses xs (record { kind = x; span = s }))
 clauses_pushed (Whole xs g) (Deep p) s = refl
 clauses_pushed (Deep p) k s = refl
 

@@ -106,35 +106,44 @@ still_not s s' t k q = subst Still q (subst (λ x. Still (step s (symbol_of x t.
 
 -- ---- moves of what is kept are moves of trees
 
+abbrev kept_stuck : KeptMove
+kept_stuck = stuck
+
+abbrev kept_leads : KeptState → KeptMove
+kept_leads s = leads s
+
+abbrev kept_ended : Kept Directive → KeptMove
+kept_ended d = ended d
+
+stuck_leads : (s : KeptState) → kept_stuck ≡ kept_leads s → ⊥
+stuck_leads s q = cc
+
+stuck_ended : (d : Kept Directive) → kept_stuck ≡ kept_ended d → ⊥
+stuck_ended d q = cc
+
+leads_ended : (s : KeptState) (d : Kept Directive) → kept_leads s ≡ kept_ended d → ⊥
+leads_ended s d q = cc
+
+same_state : (a b : KeptState) → kept_leads a ≡ kept_leads b → a ≡ b
+same_state a b q = cc
+
+same_directive : (a b : Kept Directive) → kept_ended a ≡ kept_ended b → a ≡ b
+same_directive a b q = cc
+
 record Led (m : tree.Move) (s : KeptState) : Type 0 where
   to : tree.State
   moves : m ≡ leads to
   is : keep_state to ≡ s
 
 led : (m : tree.Move) (s : KeptState) → keep_move m ≡ leads s → Led m s
-led stuck s q = absurd (apart s q)
-  where
-    apart : (s : KeptState) → stuck ≡ leads s → ⊥
-    apart s q = cc
-led (leads to) s q = record { to = to; moves = refl; is = same (keep_state to) s q }
-  where
-    same : (a b : KeptState) → leads a ≡ leads b → a ≡ b
-    same a b q = cc
-led (ended d) s q = absurd (apart (keep_directive d) s q)
-  where
-    apart : (d : Kept Directive) (s : KeptState) → ended d ≡ leads s → ⊥
-    apart d s q = cc
+led stuck s q = absurd (stuck_leads s q)
+led (leads to) s q = record { to = to; moves = refl; is = same_state (keep_state to) s q }
+led (ended d) s q = absurd (leads_ended s (keep_directive d) (sym q))
 
 is_stuck : (m : tree.Move) → keep_move m ≡ stuck → m ≡ stuck
 is_stuck stuck q = refl
-is_stuck (leads to) q = absurd (apart (keep_state to) q)
-  where
-    apart : (s : KeptState) → leads s ≡ stuck → ⊥
-    apart s q = cc
-is_stuck (ended d) q = absurd (apart (keep_directive d) q)
-  where
-    apart : (d : Kept Directive) → ended d ≡ stuck → ⊥
-    apart d q = cc
+is_stuck (leads to) q = absurd (stuck_leads (keep_state to) (sym q))
+is_stuck (ended d) q = absurd (stuck_ended (keep_directive d) (sym q))
 
 record Over (m : tree.Move) (k : Kept Directive) : Type 0 where
   whole : Directive
@@ -142,18 +151,9 @@ record Over (m : tree.Move) (k : Kept Directive) : Type 0 where
   is : keep_directive whole ≡ k
 
 over : (m : tree.Move) (k : Kept Directive) → keep_move m ≡ ended k → Over m k
-over stuck k q = absurd (apart k q)
-  where
-    apart : (k : Kept Directive) → stuck ≡ ended k → ⊥
-    apart k q = cc
-over (leads to) k q = absurd (apart (keep_state to) k q)
-  where
-    apart : (s : KeptState) (k : Kept Directive) → leads s ≡ ended k → ⊥
-    apart s k q = cc
-over (ended d) k q = record { whole = d; moves = refl; is = same (keep_directive d) k q }
-  where
-    same : (a b : Kept Directive) → ended a ≡ ended b → a ≡ b
-    same a b q = cc
+over stuck k q = absurd (stuck_ended k q)
+over (leads to) k q = absurd (leads_ended (keep_state to) k q)
+over (ended d) k q = record { whole = d; moves = refl; is = same_directive (keep_directive d) k q }
 
 letter_same : (asked : tree.Asked) (t : Symbol) → machine.wants_letter keeps (keep_asked asked) t ≡ tree.wants_letter asked t
 letter_same (machine.element l es) t = refl
