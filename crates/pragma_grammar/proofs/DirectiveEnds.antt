@@ -117,7 +117,7 @@ item_met : (o : Open) (k : List Open) → Meets (Completed (machine.item o k))
 item_met o k =
     let c = machine.with_items trees o (add_item o.items (nothing nowhere)) in
     push (Completed (machine.item o k)) (Completed (machine.item_read c k)) (word_token (codes "nothing")) (name (codes "nothing") nowhere) nothing_name (item_read_met c k)
-        (λ us d ts h. items_from (Closes (Fills Directive (Exact us) d k) (commas k) o) o.items (name (codes "nothing") nowhere ∷ ts) (record { item = nothing nowhere; left = ts; phrase = does_nothing nothing_is; after = h }))
+    (λ us d ts h. items_from (Closes (Fills Directive (Exact us) d k) (commas k) o) o.items (name (codes "nothing") nowhere ∷ ts) (record { item = nothing nowhere; left = ts; phrase = does_nothing nothing_is; after = h }))
 
 indexed_met : (m : Name) (es : Exprs) (a : Span) (part : Part) (k : List Open) → Meets (Completed (machine.indexed m es a part k))
 indexed_met m es a part k = push (Completed (machine.indexed m es a part k)) (Completed (machine.item (machine.new_open trees a part (Some m) es) k)) (sign Colon) (punct Colon nowhere) refl (item_met (machine.new_open trees a part (Some m) es) k) (λ us d ts h. takes h)
@@ -134,8 +134,8 @@ having_met (range e f) a part k = range_met e f a part k
 having_met (factored e) a part k = close_clause (Completed (machine.having (factored e) a part k)) (λ z. partial (Some e)) a part k (λ us d ts h. takes h)
 having_met (first e) a part k =
     push (Completed (machine.having (first e) a part k)) (Completed (machine.wanting (machine.range_count e) a part k)) (sign Comma) (punct Comma nowhere) refl
-        (push (Completed (machine.wanting (machine.range_count e) a part k)) (Completed (machine.having (range e zero) a part k)) zero_token (symbol zero_token) refl (range_met e zero a part k) (λ us d ts h. inl (record { whole = zero; stands = nowhere; rest = ts; phrase = literal; after = h })))
-        (λ us d ts h. range_wanted us d ts h)
+    (push (Completed (machine.wanting (machine.range_count e) a part k)) (Completed (machine.having (range e zero) a part k)) zero_token (symbol zero_token) refl (range_met e zero a part k) (λ us d ts h. inl (record { whole = zero; stands = nowhere; rest = ts; phrase = literal; after = h })))
+    (λ us d ts h. range_wanted us d ts h)
   where
     range_wanted : (us : List Symbol) (d : Directive) (ts : List Symbol) → Completed (machine.wanting (machine.range_count e) a part k) us d ts → Completed (machine.having (first e) a part k) us d (punct Comma nowhere ∷ ts)
     range_wanted us d ts (inl h) = takes h

@@ -209,14 +209,24 @@ rest_none f b part z ts h = record { more = no_clauses; last = z; left = ts; cla
 pub rest_more : (f : Owes) (b : Bool) (part : Part) (z : Span) (ts : List Symbol) → OneMore f b part ts → Rest f b part z ts
 rest_more f b part z ts h =
     let r = h.after in
-    record { more = more_clauses (clause h.kind h.stands) r.more; last = r.last; left = r.left; clauses = one_clause h.clause r.clauses
-           ; after = subst (λ cs. f (directive part.kind cs (spanning part.at r.last)) r.left) (join_one_clause part.clauses h.kind h.stands r.more) r.after }
+    record {
+      more = more_clauses (clause h.kind h.stands) r.more;
+      last = r.last;
+      left = r.left;
+      clauses = one_clause h.clause r.clauses;
+      after = subst (λ cs. f (directive part.kind cs (spanning part.at r.last)) r.left) (join_one_clause part.clauses h.kind h.stands r.more) r.after;
+    }
 
 pub rest_comma : (f : Owes) (part : Part) (z y : Span) (ts : List Symbol) → OneMore f true part ts → Rest f true part z (punct Comma y ∷ ts)
 rest_comma f part z y ts h =
     let r = h.after in
-    record { more = more_clauses (clause h.kind h.stands) r.more; last = r.last; left = r.left; clauses = after_comma h.clause r.clauses
-           ; after = subst (λ cs. f (directive part.kind cs (spanning part.at r.last)) r.left) (join_one_clause part.clauses h.kind h.stands r.more) r.after }
+    record {
+      more = more_clauses (clause h.kind h.stands) r.more;
+      last = r.last;
+      left = r.left;
+      clauses = after_comma h.clause r.clauses;
+      after = subst (λ cs. f (directive part.kind cs (spanning part.at r.last)) r.left) (join_one_clause part.clauses h.kind h.stands r.more) r.after;
+    }
 
 -- no further clause, one without and one with a comma before it
 pub data RestView (f : Owes) : Bool → Part → Span → List Symbol → Type 0 where
@@ -266,9 +276,11 @@ counts_from g cs ts h = start h
     go : (c : Count) (us : List Symbol) → Counted c ts us → AfterCount g (add_count cs c) us → CountsRest g cs ts
     go c us q (inl (takes h)) = record { more = c ∷ []; stands = _; left = _; listed = last_count q; after = h }
     go c us q (inr (takes h)) = record { more = c ∷ h.more; stands = h.stands; left = h.left; listed = next_count q h.listed; after = subst (λ x. g x h.stands h.left) (join_one_count cs c h.more) h.after }
+
     filled : (us : List Symbol) → us ≡ ts → TakesFill (λ z us. AfterCount g (add_count cs (fill z)) us) us → CountsRest g cs us
     filled us q (takes_fill {z = z} (inl (takes h))) = record { more = fill z ∷ []; stands = _; left = _; listed = last_count fills; after = h }
     filled us q (takes_fill {z = z} (inr (takes h))) = record { more = fill z ∷ h.more; stands = h.stands; left = h.left; listed = next_count fills h.listed; after = subst (λ x. g x h.stands h.left) (join_one_count cs (fill z) h.more) h.after }
+
     start : OneCount g cs ts → CountsRest g cs ts
     start (inl h) = go (given h.whole) h.rest (gives h.phrase) h.after
     start (inr h) = filled ts refl h

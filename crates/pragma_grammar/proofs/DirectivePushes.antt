@@ -2,10 +2,10 @@
 use Rattle.std.proofs.Common.{◌≡◌, List, [], ◌∷◌, ◌++◌, Option, Some, None, refl, sym, ap, ◌∙◌}
 use Rattle.std.specs.Prelude.{max, option_to_list}
 use Rattle.c_tree.specs.Placed as placed
-use Rattle.c_tree.specs.PlacedOf.{placed_expr, placed_exprs, placed_clause, placed_clauses, placed_item, placed_items}
+use Rattle.c_tree.specs.PlacedOf.{placed_expr, placed_exprs, placed_clause, placed_clauses, placed_kind, placed_item, placed_items, item_layer, kind_layer, clause_layer, directive_layer}
 use Rattle.c_tree.specs.declared.tree.Span.{Span}
 use Rattle.c_tree.specs.declared.tree.Expr.{Expr}
-use Rattle.c_tree.specs.declared.tree.Clause.{Clause}
+use Rattle.c_tree.specs.declared.tree.Clause.{Clause, fold-roll-Clause}
 use Rattle.c_tree.specs.declared.tree.ClauseKind.{ClauseKind}
 use Rattle.c_tree.specs.declared.tree.ApplyItem.{ApplyItem}
 use Rattle.pragma_grammar.specs.declared.directive_kept.Kept as code
@@ -28,6 +28,9 @@ more_clauses : (xs : List Clause) (c : Clause) → placed_clauses (xs ++ c ∷ [
 more_clauses [] c = refl
 more_clauses (x ∷ xs) c = ap (placed.more_clauses (placed_clause x)) (more_clauses xs c)
 
+clause_placed : (x : ClauseKind) (s : Span) → placed_clause (record { kind = x; span = s }) ≡ placed.clause (placed_kind x) s
+clause_placed x s = fold-roll-Clause placed.Item placed.ClauseKind placed.Clause placed.Directive item_layer kind_layer clause_layer directive_layer (record { kind = x; span = s })
+
 pub exprs_pushed : (l : code.Kept (List Expr)) (e : code.Kept Expr) → exprs_of (pushed l e) ≡ both join_last (exprs_of l) (expr_of e)
 exprs_pushed (Whole xs g) (Whole x h) = ap (λ z. kept (max g h) z) (more_exprs xs x)
 exprs_pushed (Whole xs g) (Deep p) = refl
@@ -39,7 +42,7 @@ items_pushed (Whole xs g) (Deep p) = refl
 items_pushed (Deep p) e = refl
 
 pub clauses_pushed : (l : code.Kept (List Clause)) (k : code.Kept ClauseKind) (s : Span) → clauses_of (pushed l (clause_at k s)) ≡ add_kept (clauses_of l) (clause_kind_of k) s
-clauses_pushed (Whole xs g) (Whole x h) s = ap (λ z. kept (max g h) z) (more_clauses xs (record { kind = x; span = s }))
+clauses_pushed (Whole xs g) (Whole x h) s = ap (λ z. kept (max g h) z) (more_clauses xs (record { kind = x; span = s }) ∙ ap (λ z. join_clauses (placed_clauses xs) (placed.more_clauses z placed.no_clauses)) (clause_placed x s))
 clauses_pushed (Whole xs g) (Deep p) s = refl
 clauses_pushed (Deep p) k s = refl
 

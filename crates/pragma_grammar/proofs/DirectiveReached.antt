@@ -203,10 +203,12 @@ reach_start ts = record { before = []; parts = refl; from = λ us vs d h. h; to 
 -- a token that leads on
 pub reach_step : (ts : List Token) (s s' : State) (t : Token) (rest : List Token) → Reaches ts s (t ∷ rest) → step s (symbol t) ≡ leads s' → expects s (symbol t) ≡ false → Reaches ts s' rest
 reach_step ts s s' t rest r q x =
-    record { before = r.before ++ t ∷ []
-           ; parts = r.parts ∙ sym (append_assoc r.before (t ∷ []) rest)
-           ; from = λ us vs d h. subst (Done us d start) (sym (seam r.before (t ∷ []) vs)) (r.from us (symbol t ∷ vs) d (step_from Directive (Exact us) d s (symbol t) vs (subst (λ m. Moves Directive (Exact us) d m (symbol t) vs) (sym q) h)))
-           ; to = λ us d e u more p vs h. subst (λ m. Moves Directive (Exact us) d m (symbol t) (symbol u ∷ vs)) q (step_to Directive (Exact us) (bounds us e) d s (symbol t) (symbol u ∷ vs) x (r.to us d e t rest refl (symbol u ∷ vs) (subst (Done us d start) (seam r.before (t ∷ []) (symbol u ∷ vs)) h))) }
+    record {
+      before = r.before ++ t ∷ [];
+      parts = r.parts ∙ sym (append_assoc r.before (t ∷ []) rest);
+      from = λ us vs d h. subst (Done us d start) (sym (seam r.before (t ∷ []) vs)) (r.from us (symbol t ∷ vs) d (step_from Directive (Exact us) d s (symbol t) vs (subst (λ m. Moves Directive (Exact us) d m (symbol t) vs) (sym q) h)));
+      to = λ us d e u more p vs h. subst (λ m. Moves Directive (Exact us) d m (symbol t) (symbol u ∷ vs)) q (step_to Directive (Exact us) (bounds us e) d s (symbol t) (symbol u ∷ vs) x (r.to us d e t rest refl (symbol u ∷ vs) (subst (Done us d start) (seam r.before (t ∷ []) (symbol u ∷ vs)) h)));
+    }
 
 nothing_there : {A : Type 0} {x : A} → None ≡ Some x → ⊥
 nothing_there q = cc
@@ -241,15 +243,17 @@ pub reach_letter : (ts : List Token) (asked : Asked) (a : Span) (part : Part) (k
     → Reaches ts (wanting asked a part k) (t ∷ rest) → wants_letter asked (symbol t) ≡ true → rest ≡ seg ++ u ∷ more → WholeExpr (symbols (t ∷ rest)) (e, w) (symbols (u ∷ more)) → Reaches ts (having (take asked e) a part k) (u ∷ more)
 reach_letter ts asked a part k t rest seg u more e w r x q i =
     let all : (vs : List Symbol) → Phrase 0 e w (symbols (t ∷ seg) ++ vs) vs = before_any e w (t ∷ seg) (u ∷ more) (subst (λ y. Phrase 0 e w (symbols (t ∷ y)) (symbols (u ∷ more))) q i.phrase) in
-    record { before = r.before ++ t ∷ seg
-           ; parts = r.parts ∙ ap (λ y. r.before ++ t ∷ y) q ∙ sym (append_assoc r.before (t ∷ seg) (u ∷ more))
-           ; from = λ us vs d h. subst (Done us d start) (sym (seam r.before (t ∷ seg) vs)) (r.from us (symbols (t ∷ seg) ++ vs) d (letter_from Directive (Exact us) d asked a part k e w (symbols (t ∷ seg) ++ vs) vs (all vs) h))
-           ; to = λ us d y v others p vs h.
-                let same : u ≡ v = (let z : u ∷ more ≡ v ∷ others = p in cc) in
-                let g = subst (λ m. Done us d start (symbols r.before ++ (symbols (t ∷ seg) ++ symbol m ∷ vs))) (sym same) (subst (Done us d start) (seam r.before (t ∷ seg) (symbol v ∷ vs)) h) in
-                let l = letter_to Directive (Exact us) (bounds us y) d asked a part k (symbol t) (symbols seg ++ symbol u ∷ vs) x (r.to us d y t rest refl (symbols seg ++ symbol u ∷ vs) g) in
-                let o = one_expr e l.whole w l.stands (symbols (t ∷ seg) ++ symbol u ∷ vs) (symbol u ∷ vs) l.rest (all (symbol u ∷ vs)) (stops_any (symbol u) (symbols more) vs i.ends) l.phrase (has_stops us d (take asked l.whole) a part k l.rest l.after) in
-                subst (λ m. Done us d (having (take asked e) a part k) (symbol m ∷ vs)) same (letter_has us d asked a part k e l.whole (symbol u ∷ vs) l.rest o.0 o.1 l.after) }
+    record {
+      before = r.before ++ t ∷ seg;
+      parts = r.parts ∙ ap (λ y. r.before ++ t ∷ y) q ∙ sym (append_assoc r.before (t ∷ seg) (u ∷ more));
+      from = λ us vs d h. subst (Done us d start) (sym (seam r.before (t ∷ seg) vs)) (r.from us (symbols (t ∷ seg) ++ vs) d (letter_from Directive (Exact us) d asked a part k e w (symbols (t ∷ seg) ++ vs) vs (all vs) h));
+      to = λ us d y v others p vs h.
+          let same : u ≡ v = (let z : u ∷ more ≡ v ∷ others = p in cc) in
+          let g = subst (λ m. Done us d start (symbols r.before ++ (symbols (t ∷ seg) ++ symbol m ∷ vs))) (sym same) (subst (Done us d start) (seam r.before (t ∷ seg) (symbol v ∷ vs)) h) in
+          let l = letter_to Directive (Exact us) (bounds us y) d asked a part k (symbol t) (symbols seg ++ symbol u ∷ vs) x (r.to us d y t rest refl (symbols seg ++ symbol u ∷ vs) g) in
+          let o = one_expr e l.whole w l.stands (symbols (t ∷ seg) ++ symbol u ∷ vs) (symbol u ∷ vs) l.rest (all (symbol u ∷ vs)) (stops_any (symbol u) (symbols more) vs i.ends) l.phrase (has_stops us d (take asked l.whole) a part k l.rest l.after) in
+          subst (λ m. Done us d (having (take asked e) a part k) (symbol m ∷ vs)) same (letter_has us d asked a part k e l.whole (symbol u ∷ vs) l.rest o.0 o.1 l.after);
+    }
 
 -- ---- how it ends
 
@@ -270,9 +274,11 @@ pub reach_end : (ts : List Token) (s : State) (t : Token) (rest : List Token) (d
 reach_end ts s t rest d r q x =
     let us = symbols (t ∷ rest) in
     let p : symbols ts ≡ symbols r.before ++ us = ap symbols r.parts ∙ joined r.before in
-    record { phrase = spelled us d (symbols ts) (subst (Starts (Exact us d)) (sym p) (r.from us us d (step_from Directive (Exact us) d s (symbol t) (symbols rest) (subst (λ m. Moves Directive (Exact us) d m (symbol t) (symbols rest)) (sym q) exactly))))
-           ; ends = ended_line s d (symbol t) (symbols rest) q
-           ; only = λ e vs h y. exact_parts vs e d us (subst (λ m. Moves Directive (Exact vs) e m (symbol t) (symbols rest)) q (step_to Directive (Exact vs) (bounds vs y) e s (symbol t) (symbols rest) x (r.to vs e y t rest refl (symbols rest) (subst (Starts (Exact vs e)) p (starts vs e (symbols ts) h))))) }
+    record {
+      phrase = spelled us d (symbols ts) (subst (Starts (Exact us d)) (sym p) (r.from us us d (step_from Directive (Exact us) d s (symbol t) (symbols rest) (subst (λ m. Moves Directive (Exact us) d m (symbol t) (symbols rest)) (sym q) exactly))));
+      ends = ended_line s d (symbol t) (symbols rest) q;
+      only = λ e vs h y. exact_parts vs e d us (subst (λ m. Moves Directive (Exact vs) e m (symbol t) (symbols rest)) q (step_to Directive (Exact vs) (bounds vs y) e s (symbol t) (symbols rest) x (r.to vs e y t rest refl (symbols rest) (subst (Starts (Exact vs e)) p (starts vs e (symbols ts) h)))));
+    }
   where
     joined : (before : List Token) → symbols (before ++ t ∷ rest) ≡ symbols before ++ symbols (t ∷ rest)
     joined [] = refl
@@ -282,10 +288,18 @@ reach_end ts s t rest d r q x =
 pub reach_stuck : (ts : List Token) (s : State) (t : Token) (rest : List Token) → Reaches ts s (t ∷ rest) → step s (symbol t) ≡ stuck → expects s (symbol t) ≡ false → DirectiveFault ts (blamed_as t rest) t.span.start
 reach_stuck ts s t rest r q x =
     let c = complete s in
-    record { before = r.before; token = t; rest = rest; parts = r.parts; at_place = refl; of_kind = refl
-           ; tree = c.tree; more = c.tokens
-           ; begins = λ us. spelled us c.tree (symbols (r.before ++ c.tokens) ++ us) (subst (Starts (Exact us c.tree)) (sym (seam r.before c.tokens us)) (r.from us (symbols c.tokens ++ us) c.tree (c.meets us)))
-           ; none = λ e vs us h y. subst (λ m. Moves Directive (Exact us) e m (symbol t) vs) q (step_to Directive (Exact us) (bounds us y) e s (symbol t) vs x (r.to us e y t rest refl vs (starts us e (symbols r.before ++ symbol t ∷ vs) h))) }
+    record {
+      before = r.before;
+      token = t;
+      rest = rest;
+      parts = r.parts;
+      at_place = refl;
+      of_kind = refl;
+      tree = c.tree;
+      more = c.tokens;
+      begins = λ us. spelled us c.tree (symbols (r.before ++ c.tokens) ++ us) (subst (Starts (Exact us c.tree)) (sym (seam r.before c.tokens us)) (r.from us (symbols c.tokens ++ us) c.tree (c.meets us)));
+      none = λ e vs us h y. subst (λ m. Moves Directive (Exact us) e m (symbol t) vs) q (step_to Directive (Exact us) (bounds us y) e s (symbol t) vs x (r.to us e y t rest refl vs (starts us e (symbols r.before ++ symbol t ∷ vs) h)));
+    }
 
 -- tokens that begin with the token of a fault, or before it
 record Begun (t : Token) (before : List Token) (blamed : Token) : Type 0 where
@@ -310,11 +324,19 @@ pub reach_fault : (ts : List Token) (asked : Asked) (a : Span) (part : Part) (k 
 reach_fault ts asked a part k t rest kind place r x f =
     let c = complete (having (take asked f.tree.0) a part k) in
     let b = begin_at t rest f.before f.token f.rest f.parts in
-    record { before = r.before ++ f.before; token = f.token; rest = f.rest; parts = r.parts ∙ ap (λ y. r.before ++ y) f.parts ∙ sym (append_assoc r.before f.before (f.token ∷ f.rest)); at_place = f.at_place; of_kind = f.of_kind
-           ; tree = c.tree; more = f.more ++ c.tokens
-           ; begins = λ us. spelled us c.tree (symbols ((r.before ++ f.before) ++ (f.more ++ c.tokens)) ++ us) (subst (Starts (Exact us c.tree)) (sym (seam_more r.before f.before f.more c.tokens us))
-                  (r.from us (symbols (f.before ++ f.more) ++ (symbols c.tokens ++ us)) c.tree (letter_from Directive (Exact us) c.tree asked a part k f.tree.0 f.tree.1 (symbols (f.before ++ f.more) ++ (symbols c.tokens ++ us)) (symbols c.tokens ++ us) (f.begins (symbols c.tokens ++ us)) (c.meets us))))
-           ; none = λ e vs us h y.
-                let g = subst (Starts (Exact us e)) (seam r.before f.before (symbol f.token ∷ vs)) (starts us e (symbols (r.before ++ f.before) ++ symbol f.token ∷ vs) h) in
-                let l = letter_to Directive (Exact us) (bounds us y) e asked a part k (symbol t) (b.follow vs) x (r.to us e y t rest refl (b.follow vs) (subst (λ z. Starts (Exact us e) (symbols r.before ++ z)) (b.is vs) g)) in
-                f.none (l.whole, l.stands) vs l.rest (subst (λ z. Phrase 0 l.whole l.stands z l.rest) (sym (b.is vs)) l.phrase) (has_stops us e (take asked l.whole) a part k l.rest l.after) }
+    record {
+      before = r.before ++ f.before;
+      token = f.token;
+      rest = f.rest;
+      parts = r.parts ∙ ap (λ y. r.before ++ y) f.parts ∙ sym (append_assoc r.before f.before (f.token ∷ f.rest));
+      at_place = f.at_place;
+      of_kind = f.of_kind;
+      tree = c.tree;
+      more = f.more ++ c.tokens;
+      begins = λ us. spelled us c.tree (symbols ((r.before ++ f.before) ++ (f.more ++ c.tokens)) ++ us) (subst (Starts (Exact us c.tree)) (sym (seam_more r.before f.before f.more c.tokens us))
+          (r.from us (symbols (f.before ++ f.more) ++ (symbols c.tokens ++ us)) c.tree (letter_from Directive (Exact us) c.tree asked a part k f.tree.0 f.tree.1 (symbols (f.before ++ f.more) ++ (symbols c.tokens ++ us)) (symbols c.tokens ++ us) (f.begins (symbols c.tokens ++ us)) (c.meets us))));
+      none = λ e vs us h y.
+          let g = subst (Starts (Exact us e)) (seam r.before f.before (symbol f.token ∷ vs)) (starts us e (symbols (r.before ++ f.before) ++ symbol f.token ∷ vs) h) in
+          let l = letter_to Directive (Exact us) (bounds us y) e asked a part k (symbol t) (b.follow vs) x (r.to us e y t rest refl (b.follow vs) (subst (λ z. Starts (Exact us e) (symbols r.before ++ z)) (b.is vs) g)) in
+          f.none (l.whole, l.stands) vs l.rest (subst (λ z. Phrase 0 l.whole l.stands z l.rest) (sym (b.is vs)) l.phrase) (has_stops us e (take asked l.whole) a part k l.rest l.after);
+    }

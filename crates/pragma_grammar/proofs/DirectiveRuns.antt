@@ -195,9 +195,13 @@ run_step tokens at next s s' t z r g x q =
     let w = r.within in
     let f = r.forward in
     let n : next + 1 ≡ length tokens → ⊥ = (λ e. still_not s s' t (last_ends tokens next t z g e) (step_seen s t ∙ sym q)) in
-    record { state = m.to; is = m.is
-           ; reaches = reach_step (drop at tokens) r.state m.to t (drop (next + 1) tokens) (reaches_at tokens at next s t r g) m.moves (tree_expects tokens at next s t r false x)
-           ; forward = omega arith; within = omega arith }
+    record {
+      state = m.to;
+      is = m.is;
+      reaches = reach_step (drop at tokens) r.state m.to t (drop (next + 1) tokens) (reaches_at tokens at next s t r g) m.moves (tree_expects tokens at next s t r false x);
+      forward = omega arith;
+      within = omega arith;
+    }
 
 pub run_stuck : (tokens : List Token) (at next : ℕ) (s : KeptState) (t : Token) → Running tokens at s next → slice_get tokens next ≡ Some t → machine.expects keeps s (symbol t) ≡ false → stuck ≡ step s (seen t) → IsDirectiveRead tokens at (Err (At (blamed_as t (drop (next + 1) tokens)) t.span.start))
 run_stuck tokens at next s t r g x q =
@@ -212,9 +216,15 @@ record Ended (tokens : List Token) (at next : ℕ) (k : Kept Directive) : Type 0
 run_whole : (tokens : List Token) (at next : ℕ) (s : KeptState) (t : Token) (k : Kept Directive) → Running tokens at s next → at < next → slice_get tokens next ≡ Some t → machine.expects keeps s (symbol t) ≡ false → ended k ≡ step s (seen t) → Ended tokens at next k
 run_whole tokens at next s t k r l g x q =
     let m = over (tree.step r.state (symbol t)) k (tree_step tokens at next s t r ∙ sym q) in
-    record { whole = m.whole; is = m.is
-           ; phrase = record { forward = l; within = r.within
-                             ; whole = subst (λ y. IsWhole Directive SpelledDirective EndsLine (symbols (drop at tokens)) m.whole (symbols y)) (sym (split_at tokens next t g)) (reach_end (drop at tokens) r.state t (drop (next + 1) tokens) m.whole (reaches_at tokens at next s t r g) m.moves (tree_expects tokens at next s t r false x)) } }
+    record {
+      whole = m.whole;
+      is = m.is;
+      phrase = record {
+        forward = l;
+        within = r.within;
+        whole = subst (λ y. IsWhole Directive SpelledDirective EndsLine (symbols (drop at tokens)) m.whole (symbols y)) (sym (split_at tokens next t g)) (reach_end (drop at tokens) r.state t (drop (next + 1) tokens) m.whole (reaches_at tokens at next s t r g) m.moves (tree_expects tokens at next s t r false x));
+      };
+    }
 
 pub run_tree : (tokens : List Token) (at next : ℕ) (s : KeptState) (t : Token) (d : code_directive.Directive) (h : ℕ) → Running tokens at s next → at < next → slice_get tokens next ≡ Some t → machine.expects keeps s (symbol t) ≡ false → ended (kept h (placed_directive d)) ≡ step s (seen t) → IsDirectiveRead tokens at (Ok (Whole d h next))
 run_tree tokens at next s t d h r l g x q =

@@ -53,6 +53,7 @@ module _ (P : Type 0) (F : P → Owes) where
     where
       last : (e f : Expr) (v w : Span) (b c : Span) (ts us vs : List Symbol) → Phrase 0 e v ts (punct Comma c ∷ us) → Phrase 0 f w us vs → RangeEnds P F p e f a part k vs → OneMore (Fills P F p k) (commas k) part (name x a ∷ punct RoundOpen b ∷ ts)
       last e f v w b c ts us vs g h (takes j) = record { kind = looprange e f; stands = _; left = _; clause = looprange_clause q g h; after = j }
+
       go : {b : Span} {ts : List Symbol} (e : Expr) (v : Span) (us : List Symbol) → Phrase 0 e v ts us → Has P F p (first e) a part k us → OneMore (Fills P F p k) (commas k) part (name x a ∷ punct RoundOpen b ∷ ts)
       go e v us g (takes h) = last e h.whole v h.stands _ _ _ _ h.rest g h.phrase h.after
   clause_from p x a part k ts word.LoopRange q (takes (inr h)) = absurd h

@@ -37,31 +37,32 @@ abbrev pub add_kept : Kept Clauses → Kept ClauseKind → Span → Kept Clauses
 add_kept cs kind s = both (λ x y. add_clause x y s) cs kind
 
 abbrev pub keeps : machine.Algebra
-keeps = record
-    { Expr = Kept Expr
-    ; Exprs = Kept Exprs
-    ; Counts = Kept (List Count)
-    ; Clauses = Kept Clauses
-    ; Items = Kept Items
-    ; Directive = Kept Directive
-    ; no_exprs = kept 0 no_exprs
-    ; add_expr = λ es e. both join_last es e
-    ; no_counts = kept 0 []
-    ; add_fill = λ cs s. both add_count cs (kept 0 (fill s))
-    ; add_given = λ cs e. both add_count cs (one given e)
-    ; no_clauses = kept 0 no_clauses
-    ; add_sizes = λ cs es s. add_kept cs (one sizes es) s
-    ; add_permutation = λ cs es s. add_kept cs (one permutation es) s
-    ; add_counts = λ cs ns s. add_kept cs (one counts ns) s
-    ; add_range = λ cs e f s. add_kept cs (both looprange e f) s
-    ; add_full = λ cs s. add_kept cs (kept 0 full) s
-    ; add_partial = λ cs s. add_kept cs (kept 0 (partial None)) s
-    ; add_factor = λ cs e s. add_kept cs (one (λ x. partial (Some x)) e) s
-    ; add_apply = λ cs m es is s. add_kept cs (both (λ x y. apply m x y) es is) s
-    ; no_items = kept 0 no_items
-    ; add_nothing = λ is s. both add_item is (kept 0 (nothing s))
-    ; add_directive = λ is d. both add_item is (one acts d)
-    ; directive = keep_directive_of }
+keeps = record {
+  Expr = Kept Expr;
+  Exprs = Kept Exprs;
+  Counts = Kept (List Count);
+  Clauses = Kept Clauses;
+  Items = Kept Items;
+  Directive = Kept Directive;
+  no_exprs = kept 0 no_exprs;
+  add_expr = λ es e. both join_last es e;
+  no_counts = kept 0 [];
+  add_fill = λ cs s. both add_count cs (kept 0 (fill s));
+  add_given = λ cs e. both add_count cs (one given e);
+  no_clauses = kept 0 no_clauses;
+  add_sizes = λ cs es s. add_kept cs (one sizes es) s;
+  add_permutation = λ cs es s. add_kept cs (one permutation es) s;
+  add_counts = λ cs ns s. add_kept cs (one counts ns) s;
+  add_range = λ cs e f s. add_kept cs (both looprange e f) s;
+  add_full = λ cs s. add_kept cs (kept 0 full) s;
+  add_partial = λ cs s. add_kept cs (kept 0 (partial None)) s;
+  add_factor = λ cs e s. add_kept cs (one (λ x. partial (Some x)) e) s;
+  add_apply = λ cs m es is s. add_kept cs (both (λ x y. apply m x y) es is) s;
+  no_items = kept 0 no_items;
+  add_nothing = λ is s. both add_item is (kept 0 (nothing s));
+  add_directive = λ is d. both add_item is (one acts d);
+  directive = keep_directive_of;
+}
 
 -- what is kept of a tree
 abbrev pub kept_or : {X : Type 0} → Option ℕ → ℕ → X → Kept X

@@ -28,31 +28,32 @@ abbrev pub add_count : List Count → Count → List Count
 add_count cs c = join_counts cs (c ∷ [])
 
 abbrev pub trees : machine.Algebra
-trees = record
-    { Expr = Expr
-    ; Exprs = Exprs
-    ; Counts = List Count
-    ; Clauses = Clauses
-    ; Items = Items
-    ; Directive = Directive
-    ; no_exprs = no_exprs
-    ; add_expr = join_last
-    ; no_counts = []
-    ; add_fill = λ cs s. add_count cs (fill s)
-    ; add_given = λ cs e. add_count cs (given e)
-    ; no_clauses = no_clauses
-    ; add_sizes = λ cs es s. add_clause cs (sizes es) s
-    ; add_permutation = λ cs es s. add_clause cs (permutation es) s
-    ; add_counts = λ cs ns s. add_clause cs (counts ns) s
-    ; add_range = λ cs e f s. add_clause cs (looprange e f) s
-    ; add_full = λ cs s. add_clause cs full s
-    ; add_partial = λ cs s. add_clause cs (partial None) s
-    ; add_factor = λ cs e s. add_clause cs (partial (Some e)) s
-    ; add_apply = λ cs m es is s. add_clause cs (apply m es is) s
-    ; no_items = no_items
-    ; add_nothing = λ is s. add_item is (nothing s)
-    ; add_directive = λ is d. add_item is (acts d)
-    ; directive = directive }
+trees = record {
+  Expr = Expr;
+  Exprs = Exprs;
+  Counts = List Count;
+  Clauses = Clauses;
+  Items = Items;
+  Directive = Directive;
+  no_exprs = no_exprs;
+  add_expr = join_last;
+  no_counts = [];
+  add_fill = λ cs s. add_count cs (fill s);
+  add_given = λ cs e. add_count cs (given e);
+  no_clauses = no_clauses;
+  add_sizes = λ cs es s. add_clause cs (sizes es) s;
+  add_permutation = λ cs es s. add_clause cs (permutation es) s;
+  add_counts = λ cs ns s. add_clause cs (counts ns) s;
+  add_range = λ cs e f s. add_clause cs (looprange e f) s;
+  add_full = λ cs s. add_clause cs full s;
+  add_partial = λ cs s. add_clause cs (partial None) s;
+  add_factor = λ cs e s. add_clause cs (partial (Some e)) s;
+  add_apply = λ cs m es is s. add_clause cs (apply m es is) s;
+  no_items = no_items;
+  add_nothing = λ is s. add_item is (nothing s);
+  add_directive = λ is d. add_item is (acts d);
+  directive = directive;
+}
 
 abbrev pub Part : Type 0
 Part = machine.Part trees

@@ -10,7 +10,10 @@ ghost use Rattle.pragma_grammar.specs.Trees.{join_last};
 
 use c_tree::items::Items;
 use c_tree::name::Name;
-use c_tree::tree::{ApplyItem, ApplyList, Clause, ClauseKind, ClauseList, Count, CountList, Directive, Expr, ExprList, Kind, Span};
+use c_tree::tree::{
+    ApplyItem, ApplyList, Clause, ClauseKind, ClauseList, Count, CountList, Directive, Expr,
+    ExprList, Kind, Span,
+};
 use std::alloc::{AllocError, Global};
 
 /// The greatest height of a tree that is kept.
@@ -34,17 +37,28 @@ fn push<T: Drop>(list: Kept<Items<T>>, last: Kept<T>) -> Result<Kept<Items<T>>, 
     }
 }
 
-fn push_after<T: Drop>(trees: Items<T>, height: u64, last: Kept<T>) -> Result<Kept<Items<T>>, AllocError>
+fn push_after<T: Drop>(
+    trees: Items<T>,
+    height: u64,
+    last: Kept<T>,
+) -> Result<Kept<Items<T>>, AllocError>
     ensures { IfOk result (λ r. r ≡ pushed (Kept.Whole trees height) last) }
 {
     match last {
         Kept::Deep(place) => Ok(Kept::Deep(place)),
-        Kept::Whole { tree, height: its_height } => {
+        Kept::Whole {
+            tree,
+            height: its_height,
+        } => {
             let mut trees = trees;
             trees.push(tree)?;
             Ok(Kept::Whole {
                 tree: trees,
-                height: if height < its_height { its_height } else { height },
+                height: if height < its_height {
+                    its_height
+                } else {
+                    height
+                },
             })
         }
     }
@@ -68,7 +82,10 @@ pub fn add_count(counts: Kept<CountList>, last: Kept<Count>) -> Result<Kept<Coun
 
 /// The items with one more.
 #[tactic(auto, using(crate::proofs::DirectivePushes::items_pushed))]
-pub fn add_item(items: Kept<ApplyList>, last: Kept<ApplyItem>) -> Result<Kept<ApplyList>, AllocError>
+pub fn add_item(
+    items: Kept<ApplyList>,
+    last: Kept<ApplyItem>,
+) -> Result<Kept<ApplyList>, AllocError>
     ensures { IfOk result (λ r. items_of r ≡ both add_item (items_of items) (item_of last)) }
 {
     let all = push(items, last)?;
@@ -77,7 +94,11 @@ pub fn add_item(items: Kept<ApplyList>, last: Kept<ApplyItem>) -> Result<Kept<Ap
 
 /// The clauses with one more, which stands at `span`.
 #[tactic(auto, using(crate::proofs::DirectivePushes::clauses_pushed))]
-pub fn add_clause(clauses: Kept<ClauseList>, kind: Kept<ClauseKind>, span: Span) -> Result<Kept<ClauseList>, AllocError>
+pub fn add_clause(
+    clauses: Kept<ClauseList>,
+    kind: Kept<ClauseKind>,
+    span: Span,
+) -> Result<Kept<ClauseList>, AllocError>
     ensures { IfOk result (λ r. clauses_of r ≡ add_kept (clauses_of clauses) (clause_kind_of kind) span) }
 {
     let all = push(clauses, clause(kind, span))?;
@@ -137,11 +158,18 @@ pub fn looprange(first: Kept<Expr>, count: Kept<Expr>) -> Kept<ClauseKind>
 {
     match first {
         Kept::Deep(place) => Kept::Deep(place),
-        Kept::Whole { tree: first, height: first_height } => match count {
+        Kept::Whole {
+            tree: first,
+            height: first_height,
+        } => match count {
             Kept::Deep(place) => Kept::Deep(place),
             Kept::Whole { tree, height } => Kept::Whole {
                 tree: ClauseKind::LoopRange(first, tree),
-                height: if first_height < height { height } else { first_height },
+                height: if first_height < height {
+                    height
+                } else {
+                    first_height
+                },
             },
         },
     }
@@ -169,20 +197,34 @@ pub fn plain(kind: ClauseKind) -> Kept<ClauseKind>
     }
 }
 
-pub fn apply(modifier: Option<Name>, indices: Kept<ExprList>, items: Kept<ApplyList>) -> Kept<ClauseKind>
+pub fn apply(
+    modifier: Option<Name>,
+    indices: Kept<ExprList>,
+    items: Kept<ApplyList>,
+) -> Kept<ClauseKind>
     ensures { clause_kind_of result ≡ both (λ x y. placed.apply modifier x y) (exprs_of indices) (items_of items) }
 {
     match indices {
         Kept::Deep(place) => Kept::Deep(place),
-        Kept::Whole { tree: indices, height: indices_height } => match items {
+        Kept::Whole {
+            tree: indices,
+            height: indices_height,
+        } => match items {
             Kept::Deep(place) => Kept::Deep(place),
-            Kept::Whole { tree: items, height } => Kept::Whole {
+            Kept::Whole {
+                tree: items,
+                height,
+            } => Kept::Whole {
                 tree: ClauseKind::Apply {
                     modifier,
                     indices,
                     items,
                 },
-                height: if indices_height < height { height } else { indices_height },
+                height: if indices_height < height {
+                    height
+                } else {
+                    indices_height
+                },
             },
         },
     }

@@ -101,11 +101,23 @@ pub enum Asked {
 /// What has been read of a clause when an expression in it is whole.
 #[derive(Drop)]
 pub enum Held {
-    Elements { list: Lists, exprs: Kept<ExprList> },
-    Counted { counts: Kept<CountList> },
-    First { first: Kept<Expr> },
-    Range { first: Kept<Expr>, count: Kept<Expr> },
-    Factored { factor: Kept<Expr> },
+    Elements {
+        list: Lists,
+        exprs: Kept<ExprList>,
+    },
+    Counted {
+        counts: Kept<CountList>,
+    },
+    First {
+        first: Kept<Expr>,
+    },
+    Range {
+        first: Kept<Expr>,
+        count: Kept<Expr>,
+    },
+    Factored {
+        factor: Kept<Expr>,
+    },
 }
 
 /// What stands between two tokens. Where a clause is being read, its word stands at `at`.
@@ -115,30 +127,70 @@ pub enum State {
     Start,
 
     /// The directive's name, or a clause at `last`.
-    Clauses { part: Part, last: Span },
+    Clauses {
+        part: Part,
+        last: Span,
+    },
 
     /// A comma in the outermost directive: a clause is wanted.
-    Comma { part: Part },
+    Comma {
+        part: Part,
+    },
 
     /// The word of a clause, before its parenthesis.
-    Opening { asked: Asked, at: Span, part: Part },
-    Partial { at: Span, part: Part },
-    ApplyWord { at: Span, part: Part },
+    Opening {
+        asked: Asked,
+        at: Span,
+        part: Part,
+    },
+    Partial {
+        at: Span,
+        part: Part,
+    },
+    ApplyWord {
+        at: Span,
+        part: Part,
+    },
 
     /// An expression is wanted, or has been read.
-    Wanting { asked: Asked, at: Span, part: Part },
-    Having { held: Held, at: Span, part: Part },
+    Wanting {
+        asked: Asked,
+        at: Span,
+        part: Part,
+    },
+    Having {
+        held: Held,
+        at: Span,
+        part: Part,
+    },
 
     /// The indices of a modifier, before its colon.
-    Indexed { modifier: Name, indices: Kept<ExprList>, at: Span, part: Part },
+    Indexed {
+        modifier: Name,
+        indices: Kept<ExprList>,
+        at: Span,
+        part: Part,
+    },
 
     /// `apply (`, and the name after it, which is a modifier or an item.
-    Applying { at: Span, part: Part },
-    FirstName { name: Name, name_at: Span, at: Span, part: Part },
+    Applying {
+        at: Span,
+        part: Part,
+    },
+    FirstName {
+        name: Name,
+        name_at: Span,
+        at: Span,
+        part: Part,
+    },
 
     /// An item is wanted, or `nothing` was read.
-    Item { outer: Open },
-    ItemRead { outer: Open },
+    Item {
+        outer: Open,
+    },
+    ItemRead {
+        outer: Open,
+    },
 }
 
 /// What a token does: it fits nowhere, it leads to a state, or it comes after the whole directive and isn't taken.
