@@ -45,8 +45,12 @@ colon_sound : (c : Expr) (v : Span) (e : Expr) (k : List Open) (t : Symbol) → 
 colon_sound c v e k (punct Colon z) l s = (l, s)
 colon_sound c v e k t l s = tt
 
+ends_sound : (e : Expr) (w : Span) (t : Symbol) → SoundNext (machine.ends_at Expr Exprs e w t)
+ends_sound e w (punct SquareOpen z) = tt
+ends_sound e w t = tt
+
 closes_sound : (k : List Open) (e : Expr) (w : Span) (t : Symbol) → Sound k → SoundNext (closes k e w t)
-closes_sound [] e w t s = tt
+closes_sound [] e w t s = ends_sound e w t
 closes_sound (sign a o ∷ k) e w t s = settled_sound k 7 (un o e (spanning a w)) (spanning a w) t (infix_of (asks k) 7 t) (closes k (un o e (spanning a w)) (spanning a w) t) (view (asks k) 7 t) s (closes_sound k (un o e (spanning a w)) (spanning a w) t s)
 closes_sound (casts a y ∷ k) e w t s = settled_sound k 7 (cast y e (spanning a w)) (spanning a w) t (infix_of (asks k) 7 t) (closes k (cast y e (spanning a w)) (spanning a w) t) (view (asks k) 7 t) s (closes_sound k (cast y e (spanning a w)) (spanning a w) t s)
 closes_sound (lhs f v o ∷ k) e w t s = settled_sound k (row o) (bin o f e (spanning v w)) (spanning v w) t (infix_of (asks k) (row o) t) (closes k (bin o f e (spanning v w)) (spanning v w) t) (view (asks k) (row o) t) s.1 (closes_sound k (bin o f e (spanning v w)) (spanning v w) t s.1)

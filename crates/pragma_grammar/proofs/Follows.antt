@@ -104,7 +104,7 @@ pub data Beyond (r : ℕ) : Symbol → Type 0 where
   by_question : {a : Span} → r < 1 → Beyond r (punct Question a)
   by_square : {a : Span} → Beyond r (punct SquareOpen a)
 
-row_above : (o : BinOp) → 0 < row o
+pub row_above : (o : BinOp) → 0 < row o
 row_above b.Mul = lit≤ tt
 row_above b.Div = lit≤ tt
 row_above b.Rem = lit≤ tt

@@ -13,3 +13,17 @@ pub mod DirectiveKeeping
 pub mod DirectiveMaps
 pub mod DirectiveSeen
 pub mod DirectiveRuns
+pub mod Terminals
+pub mod Stack
+pub mod Maps
+pub mod Keeping
+pub mod Pieces
+pub mod Places
+pub mod Stopping
+pub mod Wholes
+pub mod ReadExpr
+pub mod LastToken
+pub mod OneTree
+pub mod Turns
+pub mod WellFormed
+pub mod Lexed

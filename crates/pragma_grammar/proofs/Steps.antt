@@ -67,8 +67,12 @@ module _ (P : Type 0) (F : P → Owed) where
   colon_from p c v e w k (punct Colon z) ts h = takes h
   colon_from p c v e w k t ts h = absurd h
 
+  ends_from : (p : P) (e : Expr) (w : Span) (t : Symbol) (ts : List Symbol) → Moves P F p (machine.ends_at Expr Exprs e w t) t ts → F p e w (t ∷ ts)
+  ends_from p e w (punct SquareOpen z) ts h = absurd h
+  ends_from p e w t ts h = h
+
   closes_from : (p : P) (k : List Open) (e : Expr) (w : Span) (t : Symbol) (ts : List Symbol) → Sound k → Moves P F p (closes k e w t) t ts → Fills P F p k e w (t ∷ ts)
-  closes_from p [] e w t ts s h = h
+  closes_from p [] e w t ts s h = ends_from p e w t ts h
   closes_from p (sign a o ∷ k) e w t ts s h = goes_from P F p k 7 (un o e (spanning a w)) (spanning a w) t ts (infix_of (asks k) 7 t) (closes k (un o e (spanning a w)) (spanning a w) t) (view (asks k) 7 t) (asks_below k) (closes_from p k (un o e (spanning a w)) (spanning a w) t ts s) h
   closes_from p (casts a y ∷ k) e w t ts s h = goes_from P F p k 7 (cast y e (spanning a w)) (spanning a w) t ts (infix_of (asks k) 7 t) (closes k (cast y e (spanning a w)) (spanning a w) t) (view (asks k) 7 t) (asks_below k) (closes_from p k (cast y e (spanning a w)) (spanning a w) t ts s) h
   closes_from p (lhs f v o ∷ k) e w t ts s h = goes_from P F p k (row o) (bin o f e (spanning v w)) (spanning v w) t ts (infix_of (asks k) (row o) t) (closes k (bin o f e (spanning v w)) (spanning v w) t) (view (asks k) (row o) t) s.0 (closes_from p k (bin o f e (spanning v w)) (spanning v w) t ts s.1) h
@@ -152,8 +156,12 @@ module _ (P : Type 0) (F : P → Owed) where
   step_from p (have e w k) t ts s h = settle_from p k e w t ts s h
 
 module _ (P : Type 0) (F : P → Owed) (bounds : (p : P) (e : Expr) (w : Span) (t : Symbol) (ts : List Symbol) → F p e w (t ∷ ts) → Past 0 t → ⊥) where
+  ends_to : (p : P) (e : Expr) (w : Span) (t : Symbol) (ts : List Symbol) → F p e w (t ∷ ts) → Moves P F p (machine.ends_at Expr Exprs e w t) t ts
+  ends_to p e w (punct SquareOpen z) ts h = bounds p e w (punct SquareOpen z) ts h by_square
+  ends_to p e w t ts h = h
+
   closes_to : (p : P) (k : List Open) (e : Expr) (w : Span) (t : Symbol) (ts : List Symbol) → Fills P F p k e w (t ∷ ts) → Moves P F p (closes k e w t) t ts
-  closes_to p [] e w t ts h = h
+  closes_to p [] e w t ts h = ends_to p e w t ts h
   closes_to p (sign a o ∷ k) e w t ts h = goes_to P F bounds p k 7 (un o e (spanning a w)) (spanning a w) t ts (infix_of (asks k) 7 t) (closes k (un o e (spanning a w)) (spanning a w) t) (view (asks k) 7 t) (closes_to p k (un o e (spanning a w)) (spanning a w) t ts) h
   closes_to p (casts a y ∷ k) e w t ts h = goes_to P F bounds p k 7 (cast y e (spanning a w)) (spanning a w) t ts (infix_of (asks k) 7 t) (closes k (cast y e (spanning a w)) (spanning a w) t) (view (asks k) 7 t) (closes_to p k (cast y e (spanning a w)) (spanning a w) t ts) h
   closes_to p (lhs f v o ∷ k) e w t ts h = goes_to P F bounds p k (row o) (bin o f e (spanning v w)) (spanning v w) t ts (infix_of (asks k) (row o) t) (closes k (bin o f e (spanning v w)) (spanning v w) t) (view (asks k) (row o) t) (closes_to p k (bin o f e (spanning v w)) (spanning v w) t ts) h

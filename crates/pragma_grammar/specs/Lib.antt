@@ -2,6 +2,7 @@ pub mod Symbols
 pub mod Words
 pub mod Expressions
 pub mod Directives
+pub mod Sound
 pub mod Reading
 pub mod Deep
 pub mod Machine
@@ -11,3 +12,5 @@ pub mod DirectiveMachine
 pub mod DirectiveTrees
 pub mod DirectiveKept
 pub mod DirectiveStands
+pub mod Kept
+pub mod Stands

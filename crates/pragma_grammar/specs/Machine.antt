@@ -98,6 +98,11 @@ module _ (T L : Type 0) where
   expect_colon c w e k (punct Colon z) = leads (want (other c w e ∷ k))
   expect_colon c w e k t = stuck
 
+  -- a symbol after the whole expression; a subscript can only follow a name
+  abbrev pub ends_at : T → Span → Symbol → Move T L
+  ends_at e w (punct SquareOpen z) = stuck
+  ends_at e w t = ended e w
+
   abbrev pub prefixed : Option UnOp → Span → List (Open T L) → Move T L
   prefixed (Some o) a k = leads (want (sign a o ∷ k))
   prefixed None a k = stuck
@@ -118,7 +123,7 @@ module _ (T L : Type 0) (A : Algebra T L) where
   -- What a symbol does after the operand `e`, which stands at `w` and fills the innermost open phrase: it closes
   -- phrases until it goes on with an operand, is taken, or stands after the whole.
   abbrev pub closes : List (Open T L) → T → Span → Symbol → Move T L
-  closes [] e w t = ended e w
+  closes [] e w t = ends_at T L e w t
   closes (sign a o ∷ k) e w t = settled T L (infix_of (asks T L k) 7 t) (A.un o e (spanning a w)) (spanning a w) k (closes k (A.un o e (spanning a w)) (spanning a w) t)
   closes (casts a ty ∷ k) e w t = settled T L (infix_of (asks T L k) 7 t) (A.cast ty e (spanning a w)) (spanning a w) k (closes k (A.cast ty e (spanning a w)) (spanning a w) t)
   closes (lhs f v o ∷ k) e w t = settled T L (infix_of (asks T L k) (row o) t) (A.bin o f e (spanning v w)) (spanning v w) k (closes k (A.bin o f e (spanning v w)) (spanning v w) t)

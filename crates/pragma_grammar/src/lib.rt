@@ -3,7 +3,13 @@
 
 mod directive_kept;
 mod directive_state;
+mod blame;
+pub mod expression;
+pub mod laws;
 mod open_phrase;
+mod operand;
+mod operators;
 pub mod phrase;
+mod reading;
 pub mod terminal;
 pub mod words;

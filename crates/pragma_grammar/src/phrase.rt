@@ -1,5 +1,7 @@
 //! What a reader of phrases answers.
 
+use std::alloc::AllocError;
+
 /// A whole phrase: its tree with its height, or, where the height is above 256, the place of the first token of that
 /// subtree of height 257 which ends first. `next` is the index of the token after the phrase.
 #[derive(Debug, Drop)]
@@ -26,4 +28,15 @@ pub enum ParseKind {
 pub enum ParseFault {
     At(ParseKind, u64),
     Memory,
+}
+
+impl From<AllocError> for ParseFault {
+    ghost use Rattle.std.specs.Prelude.{◌≡◌};
+    ghost use Rattle.pragma_grammar.specs.declared.phrase.ParseFault.TheVariants.{Memory};
+
+    ghost from_gives = { λ _ fault. fault ≡ Memory };
+
+    fn from(_: AllocError) -> ParseFault {
+        ParseFault::Memory
+    }
 }
