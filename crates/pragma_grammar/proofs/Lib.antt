@@ -17,7 +17,6 @@ pub mod Terminals
 pub mod Stack
 pub mod Maps
 pub mod Keeping
-pub mod Pieces
 pub mod Places
 pub mod Stopping
 pub mod Wholes

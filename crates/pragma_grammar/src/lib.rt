@@ -1,9 +1,9 @@
 //! Expressions and directives: the grammar's relation between tokens and trees, and the readers that are exact by it.
 #![tactic(auto)]
 
+mod blame;
 mod directive_kept;
 mod directive_state;
-mod blame;
 pub mod expression;
 pub mod laws;
 mod open_phrase;
