@@ -10,6 +10,11 @@ pub mod Pieces
 pub mod DirectiveEnds
 pub mod DirectiveLetters
 pub mod DirectiveReached
+pub mod DirectivePushes
+pub mod DirectiveKeeping
+pub mod DirectiveMaps
+pub mod DirectiveSeen
+pub mod DirectiveRuns
 pub mod Terminals
 pub mod Stack
 pub mod Maps

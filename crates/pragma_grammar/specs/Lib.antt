@@ -10,5 +10,7 @@ pub mod Trees
 pub mod Terminals
 pub mod DirectiveMachine
 pub mod DirectiveTrees
+pub mod DirectiveKept
+pub mod DirectiveStands
 pub mod Kept
 pub mod Stands

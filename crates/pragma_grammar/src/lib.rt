@@ -2,6 +2,8 @@
 #![tactic(auto)]
 
 mod blame;
+mod directive_kept;
+mod directive_state;
 pub mod expression;
 pub mod laws;
 mod open_phrase;
