@@ -1,0 +1,2 @@
+//! The grammar of programs: which tokens spell which tree, and what blame is.
+#![tactic(auto)]

@@ -1,0 +1,14 @@
+pub mod Tails
+pub mod Follows
+pub mod Steps
+pub mod Ends
+pub mod Terminals
+pub mod Stack
+pub mod Maps
+pub mod Keeping
+pub mod Pieces
+pub mod Places
+pub mod Stopping
+pub mod Wholes
+pub mod ReadExpr
+pub mod LastToken

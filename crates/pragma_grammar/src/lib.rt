@@ -1,0 +1,12 @@
+//! Expressions and directives: the grammar's relation between tokens and trees, and the readers that are exact by it.
+#![tactic(auto)]
+
+mod blame;
+pub mod expression;
+mod open_phrase;
+mod operand;
+mod operators;
+pub mod phrase;
+mod reading;
+pub mod terminal;
+pub mod words;
