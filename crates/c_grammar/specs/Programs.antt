@@ -63,10 +63,10 @@ pub data Parameters : List Param → List Symbol → List Symbol → Type 0 wher
   none : {ts us : List Symbol} → MayStand Void ts us → Parameters [] ts us
   some : {ps : List Param} {ts us : List Symbol} → Params ps ts us → Parameters ps ts us
 
--- `return 0;`, with the number spelled `0`, may end `main`
+-- `return 0;` may end `main`; of the numbers that are 0 only the one spelled `0` may stand there
 pub data MayReturn : List Symbol → List Symbol → Type 0 where
   goes_off : {ts : List Symbol} → MayReturn ts ts
-  returns : {ty : Ty} {a b c : Span} {ts : List Symbol} → MayReturn (keyword Return a ∷ number 0 ty true b ∷ punct Semicolon c ∷ ts) ts
+  returns : {n : ℕ} {ty : Ty} {a b c : Span} {ts : List Symbol} → MayReturn (keyword Return a ∷ number n ty true b ∷ punct Semicolon c ∷ ts) ts
 
 -- `Tops tops ts us`: the items of a file with `main` as the last one; `main` and functions keep their braces
 pub data Tops : List Started → List Symbol → List Symbol → Type 0 where

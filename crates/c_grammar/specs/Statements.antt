@@ -40,31 +40,33 @@ IsOmp x = x ≡ codes "omp"
 pub data TargetPhrase : Target → Span → List Symbol → List Symbol → Type 0 where
   targets : {x : Name} {es : Exprs} {a z : Span} {ts us : List Symbol} → Subscripts es a z ts us → TargetPhrase (target x es (spanning a z)) (spanning a z) (name x a ∷ ts) us
 
--- `Simple to s z ts us`: an assignment or a step (6.8.3), whose node ends at `to`; its last token stands at `z`
-pub data Simple : ℕ → Stmt → Span → List Symbol → List Symbol → Type 0 where
-  assignment : {to : ℕ} {x : Target} {t : Symbol} {o : SetOp} {e : Expr} {v w : Span} {ts us vs : List Symbol} → TargetPhrase x v ts (t ∷ us) → assigns t ≡ Some o → Phrase 0 e w us vs → Simple to (set x o e (record { start = v.start; end = to })) w ts vs
-  step_after : {to : ℕ} {x : Target} {t : Symbol} {up : Bool} {v : Span} {ts us : List Symbol} → TargetPhrase x v ts (t ∷ us) → steps t ≡ Some up → Simple to (step x up (record { start = v.start; end = to })) (place t) ts us
-  step_before : {to : ℕ} {x : Target} {t : Symbol} {up : Bool} {v : Span} {ts us : List Symbol} → steps t ≡ Some up → TargetPhrase x v ts us → Simple to (step x up (record { start = (place t).start; end = to })) v (t ∷ ts) us
+-- `Simple s z ts us`: an assignment or a step (6.8.3); `s to` is its node where that ends at `to`, and its last token
+-- stands at `z`
+pub data Simple : (ℕ → Stmt) → Span → List Symbol → List Symbol → Type 0 where
+  assignment : {x : Target} {t : Symbol} {o : SetOp} {e : Expr} {v w : Span} {ts us vs : List Symbol} → TargetPhrase x v ts (t ∷ us) → assigns t ≡ Some o → Phrase 0 e w us vs → Simple (λ to. set x o e (record { start = v.start; end = to })) w ts vs
+  step_after : {x : Target} {t : Symbol} {up : Bool} {v : Span} {ts us : List Symbol} → TargetPhrase x v ts (t ∷ us) → steps t ≡ Some up → Simple (λ to. step x up (record { start = v.start; end = to })) (place t) ts us
+  step_before : {x : Target} {t : Symbol} {up : Bool} {v : Span} {ts us : List Symbol} → steps t ≡ Some up → TargetPhrase x v ts us → Simple (λ to. step x up (record { start = (place t).start; end = to })) v (t ∷ ts) us
 
--- `Declarator ty from to ss rest z ts us`: a declarator (6.7.6) of a declaration of type `ty`; its nodes begin at `from`
--- and end at `to`, and stand in `ss` before the statements `rest`. Its last token stands at `z`. What is declared and
--- read at once is a declaration that ends at its name, and then the reading.
-pub data Declarator : Ty → ℕ → ℕ → Stmts → Stmts → Span → List Symbol → List Symbol → Type 0 where
-  unset : {ty : Ty} {from to : ℕ} {rest : Stmts} {x : Name} {a : Span} {ts : List Symbol} → Declarator ty from to (more_stmts (decl ty x a None (record { start = from; end = to })) rest) rest a (name x a ∷ ts) ts
-  valued : {ty : Ty} {from to : ℕ} {rest : Stmts} {x : Name} {e : Expr} {a b w : Span} {ts us : List Symbol} → Phrase 0 e w ts us → Declarator ty from to (more_stmts (decl ty x a (Some e) (record { start = from; end = to })) rest) rest w (name x a ∷ punct Assign b ∷ ts) us
-  read_in : {ty : Ty} {from to : ℕ} {rest : Stmts} {x : Name} {a b c d z : Span} {ts : List Symbol} → Declarator ty from to (more_stmts (decl ty x a None (record { start = from; end = a.end })) (more_stmts (input (target x no_exprs a) c.start (record { start = a.start; end = to })) rest)) rest z (name x a ∷ punct Assign b ∷ keyword Input c ∷ punct RoundOpen d ∷ punct RoundClose z ∷ ts) ts
+-- `Declarator ty from ss z ts us`: a declarator (6.7.6) of a declaration of type `ty`; `ss to rest` is its nodes, which
+-- begin at `from` and end at `to`, before the statements `rest`. Its last token stands at `z`. What is declared and read
+-- at once is a declaration that ends at its name, and then the reading.
+pub data Declarator : Ty → ℕ → (ℕ → Stmts → Stmts) → Span → List Symbol → List Symbol → Type 0 where
+  unset : {ty : Ty} {from : ℕ} {x : Name} {a : Span} {ts : List Symbol} → Declarator ty from (λ to rest. more_stmts (decl ty x a None (record { start = from; end = to })) rest) a (name x a ∷ ts) ts
+  valued : {ty : Ty} {from : ℕ} {x : Name} {e : Expr} {a b w : Span} {ts us : List Symbol} → Phrase 0 e w ts us → Declarator ty from (λ to rest. more_stmts (decl ty x a (Some e) (record { start = from; end = to })) rest) w (name x a ∷ punct Assign b ∷ ts) us
+  read_in : {ty : Ty} {from : ℕ} {x : Name} {a b c d z : Span} {ts : List Symbol} → Declarator ty from (λ to rest. more_stmts (decl ty x a None (record { start = from; end = a.end })) (more_stmts (input (target x no_exprs a) c.start (record { start = a.start; end = to })) rest)) z (name x a ∷ punct Assign b ∷ keyword Input c ∷ punct RoundOpen d ∷ punct RoundClose z ∷ ts) ts
 
--- declarators with commas between them, through `;`: the first begins at `from`, which is the type's place, and each
--- other one at its name; the last one ends at `;`, and each other one at its last token
+-- declarators with commas between them, through `;`, and the statements `rest` after them: the first begins at `from`,
+-- which is the type's place, and each other one at its name; the last one ends at `;`, and each other one at its last
+-- token
 pub data Declarators : Ty → ℕ → Stmts → Stmts → List Symbol → List Symbol → Type 0 where
-  last_declarator : {ty : Ty} {from : ℕ} {ss rest : Stmts} {y z : Span} {ts us : List Symbol} → Declarator ty from z.end ss rest y ts (punct Semicolon z ∷ us) → Declarators ty from ss rest ts us
-  next_declarator : {ty : Ty} {from : ℕ} {ss rs rest : Stmts} {y z : Span} {ts us vs : List Symbol} → Declarator ty from y.end ss rs y ts (punct Comma z ∷ us) → Declarators ty (start_of us) rs rest us vs → Declarators ty from ss rest ts vs
+  last_declarator : {ty : Ty} {from : ℕ} {ss : ℕ → Stmts → Stmts} {rest : Stmts} {y z : Span} {ts us : List Symbol} → Declarator ty from ss y ts (punct Semicolon z ∷ us) → Declarators ty from (ss z.end rest) rest ts us
+  next_declarator : {ty : Ty} {from : ℕ} {ss : ℕ → Stmts → Stmts} {rs rest : Stmts} {y z : Span} {ts us vs : List Symbol} → Declarator ty from ss y ts (punct Comma z ∷ us) → Declarators ty (start_of us) rs rest us vs → Declarators ty from (ss y.end rs) rest ts vs
 
 -- the parts of a `for` head (6.8.5.3): each is absent, or ends with its last token
 pub data Init : MaybeStmt → List Symbol → List Symbol → Type 0 where
   no_init : {ts : List Symbol} → Init no_stmt ts ts
   declares : {ty : Ty} {x : Name} {e : Expr} {a b w : Span} {ts us vs : List Symbol} → TypeName ty ts (name x a ∷ punct Assign b ∷ us) → Phrase 0 e w us vs → Init (a_stmt (decl ty x a (Some e) (record { start = start_of ts; end = w.end }))) ts vs
-  begins : {s : Stmt} {z : Span} {ts us : List Symbol} → Simple z.end s z ts us → Init (a_stmt s) ts us
+  begins : {s : ℕ → Stmt} {z : Span} {ts us : List Symbol} → Simple s z ts us → Init (a_stmt (s z.end)) ts us
 
 pub data Test : Option Expr → List Symbol → List Symbol → Type 0 where
   no_test : {ts : List Symbol} → Test None ts ts
@@ -72,7 +74,7 @@ pub data Test : Option Expr → List Symbol → List Symbol → Type 0 where
 
 pub data Next : MaybeStmt → List Symbol → List Symbol → Type 0 where
   no_next : {ts : List Symbol} → Next no_stmt ts ts
-  goes_on : {s : Stmt} {z : Span} {ts us : List Symbol} → Simple z.end s z ts us → Next (a_stmt s) ts us
+  goes_on : {s : ℕ → Stmt} {z : Span} {ts us : List Symbol} → Simple s z ts us → Next (a_stmt (s z.end)) ts us
 
 -- the place of a part is that of its first token, and of an absent one that of the token which follows
 pub data HeadPhrase : Head → List Symbol → List Symbol → Type 0 where
@@ -91,8 +93,8 @@ mutual
   pub data Plain : Stmt → Span → List Symbol → List Symbol → Type 0 where
     -- 6.8.3
     nothing : {a : Span} {ts : List Symbol} → Plain (empty a) a (punct Semicolon a ∷ ts) ts
-    simply : {s : Stmt} {y z : Span} {ts us : List Symbol} → Simple z.end s y ts (punct Semicolon z ∷ us) → Plain s z ts us
-    reads : {x : Target} {v b c d e z : Span} {ts us : List Symbol} → TargetPhrase x v ts (punct Assign b ∷ keyword Input c ∷ punct RoundOpen d ∷ punct RoundClose e ∷ punct Semicolon z ∷ us) → Plain (input x c.start (spanning v z)) z ts us
+    simply : {s : ℕ → Stmt} {y z : Span} {ts us : List Symbol} → Simple s y ts (punct Semicolon z ∷ us) → Plain (s z.end) z ts us
+    reads : {x : Target} {t : Symbol} {v c d e z : Span} {ts us : List Symbol} → assigns t ≡ Some op.Plain → TargetPhrase x v ts (t ∷ keyword Input c ∷ punct RoundOpen d ∷ punct RoundClose e ∷ punct Semicolon z ∷ us) → Plain (input x c.start (spanning v z)) z ts us
     prints : {e : Expr} {a b w y z : Span} {ts us : List Symbol} → Phrase 0 e w ts (punct RoundClose y ∷ punct Semicolon z ∷ us) → Plain (print e (spanning a z)) z (keyword Print a ∷ punct RoundOpen b ∷ ts) us
     calls : {x : Name} {a b y z : Span} {ts : List Symbol} → Plain (call x a no_exprs (spanning a z)) z (name x a ∷ punct RoundOpen b ∷ punct RoundClose y ∷ punct Semicolon z ∷ ts) ts
     calls_with : {x : Name} {es : Exprs} {a b y z : Span} {ts us : List Symbol} → Listed es ts (punct RoundClose y ∷ punct Semicolon z ∷ us) → Plain (call x a es (spanning a z)) z (name x a ∷ punct RoundOpen b ∷ ts) us

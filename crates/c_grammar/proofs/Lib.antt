@@ -1,0 +1,9 @@
+pub mod Classes
+pub mod Meaning
+pub mod Parts
+pub mod StatementGoals
+pub mod ItemGoals
+pub mod Steps
+pub mod Completions
+pub mod Letters
+pub mod Reached
