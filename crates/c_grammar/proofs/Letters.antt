@@ -17,7 +17,7 @@ use Rattle.pragma_grammar.proofs.Pieces.{piece_of}
 
 -- ---- no symbols complete no state
 
-phrase_some : {r : ℕ} {e : Expr} {w : Span} {us : List Symbol} → Phrase r e w [] us → ⊥
+pub phrase_some : {r : ℕ} {e : Expr} {w : Span} {us : List Symbol} → Phrase r e w [] us → ⊥
 phrase_some (binary q l h k) = phrase_some h
 phrase_some (choice l h i j) = phrase_some h
 

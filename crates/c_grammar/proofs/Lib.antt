@@ -7,3 +7,4 @@ pub mod Steps
 pub mod Completions
 pub mod Letters
 pub mod Reached
+pub mod Lines

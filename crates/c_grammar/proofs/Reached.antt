@@ -106,19 +106,19 @@ module _ (T : Type 0) (Spelled : T → List Symbol → List Symbol → Type 0) (
     (any : (e : T) (xs ys : List Token) → Spelled e (symbols (xs ++ ys)) (symbols ys) → (vs : List Symbol) → Spelled e (symbols xs ++ vs) vs)
     (ends_any : (t : Symbol) (ts us : List Symbol) → Ends (t ∷ ts) → Ends (t ∷ us)) where
 
-  record Reads (after : T → Goal) (p : List Started) (ts : List Symbol) : Type 0 where
-    tree : T
-    left : List Symbol
-    phrase : Spelled tree ts left
-    ends : Ends left
-    meets : Meets p (after tree) left
+  pub record Reads (after : T → Goal) (p : List Started) (ts : List Symbol) : Type 0 where
+    pub tree : T
+    pub left : List Symbol
+    pub phrase : Spelled tree ts left
+    pub ends : Ends left
+    pub meets : Meets p (after tree) left
 
   -- a phrase is wanted, and the goal after it is then `after`
-  record Letter (x : Goal) (t : Symbol) (after : T → Goal) : Type 0 where
-    from : (p : List Started) (ts us : List Symbol) (e : T) → Spelled e (t ∷ ts) us → Meets p (after e) us → Meets p x (t ∷ ts)
-    to : (p : List Started) (ts : List Symbol) → Meets p x (t ∷ ts) → Reads after p (t ∷ ts)
+  pub record Letter (x : Goal) (t : Symbol) (after : T → Goal) : Type 0 where
+    pub from : (p : List Started) (ts us : List Symbol) (e : T) → Spelled e (t ∷ ts) us → Meets p (after e) us → Meets p x (t ∷ ts)
+    pub to : (p : List Started) (ts : List Symbol) → Meets p x (t ∷ ts) → Reads after p (t ∷ ts)
 
-  reach_letter : (ts : List Token) (x : Goal) (after : T → Goal) (t : Token) (rest seg : List Token) (u : Token) (more : List Token) (e : T)
+  pub reach_letter : (ts : List Token) (x : Goal) (after : T → Goal) (t : Token) (rest seg : List Token) (u : Token) (more : List Token) (e : T)
       → Reached ts x (t ∷ rest) → Letter x (symbol t) after → rest ≡ seg ++ u ∷ more → IsWhole T Spelled Ends (symbols (t ∷ rest)) e (symbols (u ∷ more)) → Reached ts (after e) (u ∷ more)
   reach_letter ts x after t rest seg u more e r x' q i =
       let all : (vs : List Symbol) → Spelled e (symbols (t ∷ seg) ++ vs) vs = any e (t ∷ seg) (u ∷ more) (subst (λ y. Spelled e (symbols (t ∷ y)) (symbols (u ∷ more))) q i.phrase) in
@@ -132,15 +132,52 @@ module _ (T : Type 0) (Spelled : T → List Symbol → List Symbol → Type 0) (
                   let o = one e l.tree (symbols (t ∷ seg) ++ symbol u ∷ vs) (symbol u ∷ vs) l.left (all (symbol u ∷ vs)) (ends_any (symbol u) (symbols more) vs i.ends) l.phrase l.ends in
                   subst (λ m. Meets p (after e) (symbol m ∷ vs)) same (subst (λ z. Meets p (after z) (symbol u ∷ vs)) (sym o.0) (subst (λ z. Meets p (after l.tree) z) (sym o.1) l.meets)) }
 
-  reach_fault : (ts : List Token) (x : Goal) (after : T → Goal) (t : Token) (rest : List Token) (kind : ParseKind) (place : ℕ)
+  -- what was read before the token of a fault begins a program
+  fault_begins : (ts : List Token) (x : Goal) (after : T → Goal) (t : Token) (rest : List Token) (r : Reached ts x (t ∷ rest)) → Letter x (symbol t) after → (e : T) (before : List Token) (blamed : Token) (others more : List Token) → t ∷ rest ≡ before ++ blamed ∷ others → ((us : List Symbol) → Spelled e (symbols (before ++ more) ++ us) us) → Begins (r.before ++ before)
+  fault_begins ts x after t rest r x' e [] blamed others more q h =
+      let c = complete x in
+      program_spelled c.program (r.before ++ []) c.tokens (subst (Meets c.program gl.program_goal) (sym (seam r.before [] (symbols c.tokens))) (r.from c.program (symbols c.tokens) c.meets))
+  fault_begins ts x after t rest r x' e (y ∷ before) blamed others more q h =
+      let same : t ≡ y = (let z : t ∷ rest ≡ y ∷ (before ++ blamed ∷ others) = q in cc) in
+      let c = complete (after e) in
+      let us = symbols (before ++ more) ++ symbols c.tokens in
+      let first : Spelled e (symbol t ∷ us) (symbols c.tokens) = subst (λ z. Spelled e (symbol z ∷ us) (symbols c.tokens)) (sym same) (h (symbols c.tokens)) in
+      let m : Meets c.program x (symbol y ∷ us) = subst (λ z. Meets c.program x (symbol z ∷ us)) same (x'.from c.program us (symbols c.tokens) e first c.meets) in
+      program_spelled c.program (r.before ++ y ∷ before) (more ++ c.tokens) (subst (Meets c.program gl.program_goal) (seam_more r.before (y ∷ before) more c.tokens) (r.from c.program (symbol y ∷ us) m))
+
+  pub reach_fault : (ts : List Token) (x : Goal) (after : T → Goal) (t : Token) (rest : List Token) (kind : ParseKind) (place : ℕ)
       → Reached ts x (t ∷ rest) → Letter x (symbol t) after → IsFault T Spelled Ends (t ∷ rest) kind place → Blame ts kind place
   reach_fault ts x after t rest kind place r x' f =
-      let c = complete (after f.tree) in
       let b = begin_at t rest f.before f.token f.rest f.parts in
-      let all = symbols (f.before ++ f.more) ++ symbols c.tokens in
       record { before = r.before ++ f.before; token = f.token; rest = f.rest; parts = r.parts ∙ ap (λ y. r.before ++ y) f.parts ∙ sym (append_assoc r.before f.before (f.token ∷ f.rest)); at_place = f.at_place; of_kind = f.of_kind
-             ; begins = program_spelled c.program (r.before ++ f.before) (f.more ++ c.tokens) (subst (Meets c.program gl.program_goal) (seam_more r.before f.before f.more c.tokens) (r.from c.program all ?))
+             ; begins = fault_begins ts x after t rest r x' f.tree f.before f.token f.rest f.more f.parts f.begins
              ; none = λ program more s.
                   let g = subst (Meets s.items gl.program_goal) (seam r.before f.before (symbol f.token ∷ symbols more)) (unspelled program (r.before ++ f.before) f.token more s) in
                   let l = x'.to s.items (b.follow (symbols more)) (r.to s.items t rest refl (b.follow (symbols more)) (subst (λ z. Meets s.items gl.program_goal (symbols r.before ++ z)) (b.is (symbols more)) g)) in
                   f.none l.tree (symbols more) l.left (subst (λ z. Spelled l.tree z l.left) (sym (b.is (symbols more))) l.phrase) l.ends }
+
+-- ---- an expression
+
+abbrev pub after_expr : (Expr → Span → Goal) → Expr × Span → Goal
+after_expr f e = stopping (f e.0 e.1)
+
+abbrev pub ExprLetter : Goal → Symbol → (Expr × Span → Goal) → Type 0
+ExprLetter x t after = Letter (Expr × Span) SpelledExpr Stops one_expr expr_any stops_any x t after
+
+expr_from : (p : List Started) (x : Goal) (t : Symbol) (f : Expr → Span → Goal) → gl.step x t ≡ reads f → (ts us : List Symbol) (e : Expr) (w : Span) → Phrase 0 e w (t ∷ ts) us → Stopping (λ vs. Meets p (f e w) vs) us → Meets p x (t ∷ ts)
+expr_from p x t f q ts us e w h (stopping_at n k) = step_from p x t ts (subst (λ m. Moves p m t ts) (sym q) (expr_reads h n k))
+
+expr_to : (p : List Started) (f : Expr → Span → Goal) (ts : List Symbol) → ExprReads (λ e w us. Meets p (f e w) us) ts → Reads (Expr × Span) SpelledExpr Stops one_expr expr_any stops_any (after_expr f) p ts
+expr_to p f ts (expr_reads {e = e} {w = w} {us = us} h n k) = record { tree = (e, w); left = us; phrase = h; ends = n; meets = stopping_at n k }
+
+pub expr_letter : (x : Goal) (t : Symbol) (f : Expr → Span → Goal) → gl.step x t ≡ reads f → ExprLetter x t (after_expr f)
+expr_letter x t f q = record { from = λ p ts us e h m. expr_from p x t f q ts us e.0 e.1 h m; to = λ p ts h. expr_to p f (t ∷ ts) (subst (λ m. Moves p m t ts) q (step_to p x t ts h)) }
+
+-- a whole expression was read
+pub reach_expr : (ts : List Token) (x : Goal) (f : Expr → Span → Goal) (t : Token) (rest seg : List Token) (u : Token) (more : List Token) (e : Expr × Span)
+    → Reached ts x (t ∷ rest) → gl.step x (symbol t) ≡ reads f → rest ≡ seg ++ u ∷ more → IsWhole (Expr × Span) SpelledExpr Stops (symbols (t ∷ rest)) e (symbols (u ∷ more)) → Reached ts (after_expr f e) (u ∷ more)
+reach_expr ts x f t rest seg u more e r q = reach_letter (Expr × Span) SpelledExpr Stops one_expr expr_any stops_any ts x (after_expr f) t rest seg u more e r (expr_letter x (symbol t) f q)
+
+-- or none stands there
+pub reach_expr_fault : (ts : List Token) (x : Goal) (f : Expr → Span → Goal) (t : Token) (rest : List Token) (kind : ParseKind) (place : ℕ) → Reached ts x (t ∷ rest) → gl.step x (symbol t) ≡ reads f → IsFault (Expr × Span) SpelledExpr Stops (t ∷ rest) kind place → Blame ts kind place
+reach_expr_fault ts x f t rest kind place r q = reach_fault (Expr × Span) SpelledExpr Stops one_expr expr_any stops_any ts x (after_expr f) t rest kind place r (expr_letter x (symbol t) f q)
