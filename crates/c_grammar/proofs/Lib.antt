@@ -8,3 +8,6 @@ pub mod Completions
 pub mod Letters
 pub mod Reached
 pub mod Lines
+pub mod OneDirective
+pub mod OneProgram
+pub mod OneAnswer
