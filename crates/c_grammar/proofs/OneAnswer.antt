@@ -7,7 +7,7 @@ use Rattle.pragma_grammar.specs.Symbols.{symbols}
 use Rattle.pragma_grammar.specs.Reading.{blamed_as}
 use Rattle.c_grammar.specs.Programs.{Started, tops_of, SpellsItems, Spells}
 use Rattle.c_grammar.specs.Reading.{Begins, Blame, deep_items, IsTree, IsTooDeep}
-use Rattle.c_grammar.proofs.Classes.{none_some, some_same}
+use Rattle.c_grammar.proofs.Classes.{none_some}
 use Rattle.c_grammar.proofs.OneProgram.{one_spelled}
 
 spells_of : (items : List Started) (tokens : List Token) → SpellsItems items tokens → Spells (tops_of items) tokens
@@ -26,8 +26,11 @@ deep_or_blame tokens kind place other d b = blame_apart tokens kind place (tops_
 pub tree_or_deep : (tokens : List Token) (program : Program) (place : ℕ) → IsTree tokens program → IsTooDeep tokens place → ⊥
 tree_or_deep tokens program place t d = none_some (sym t.3 ∙ ap deep_items (one_spelled t.0 d.0 (symbols tokens) t.1 d.1) ∙ d.2)
 
+same_place : {m n : ℕ} → Some m ≡ Some n → m ≡ n
+same_place q = cc
+
 pub one_deep : (tokens : List Token) (place other : ℕ) → IsTooDeep tokens place → IsTooDeep tokens other → place ≡ other
-one_deep tokens place other c d = some_same (sym c.2 ∙ ap deep_items (one_spelled c.0 d.0 (symbols tokens) c.1 d.1) ∙ d.2)
+one_deep tokens place other c d = same_place (sym c.2 ∙ ap deep_items (one_spelled c.0 d.0 (symbols tokens) c.1 d.1) ∙ d.2)
 
 -- ---- two blames
 
