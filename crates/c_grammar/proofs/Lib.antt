@@ -11,3 +11,5 @@ pub mod Lines
 pub mod OneDirective
 pub mod OneProgram
 pub mod OneAnswer
+pub mod WellFormed
+pub mod Shallow

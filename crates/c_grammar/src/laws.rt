@@ -1,24 +1,38 @@
-//! Laws of the grammar alone. Each stands on a function that does nothing.
+//! Laws of the grammar.
 
-ghost use Rattle.std.specs.Prelude.{◌≡◌, ℕ};
+ghost use Rattle.std.specs.Prelude.{◌≡◌, ℕ, ◌≤◌, List};
+ghost use Rattle.c_tree.specs.Forget.{forget_program};
+ghost use Rattle.c_tree.specs.Height.{program_height};
 ghost use Rattle.c_tree.specs.Placed.{Program};
+ghost use Rattle.c_tree.specs.WellFormed.{WellFormed};
+ghost use Rattle.c_lexer.specs.Cut.{Cut};
+ghost use Rattle.c_lexer.specs.declared.token.Token.{Token};
 ghost use Rattle.pragma_grammar.specs.declared.phrase.ParseKind.{ParseKind};
 ghost use Rattle.c_grammar.specs.Programs.{Spells};
 ghost use Rattle.c_grammar.specs.Reading.{Blame, IsTree, IsTooDeep};
 
-use c_lexer::token::Token;
+/// What the tokens of a text spell is well formed.
+pub fn texts_are_well_formed()
+    ensures { (text : List ℕ) (tokens : List Token) (program : Program) → Cut text tokens → Spells program tokens → WellFormed (forget_program program) }
+{}
+
+/// A tree of a text, no part of which is too deep, is well formed and has height 256 at most.
+pub fn trees_may_be_checked()
+    ensures { (text : List ℕ) (tokens : List Token) (program : Program) → Cut text tokens → IsTree tokens program
+        → WellFormed (forget_program program) × (program_height (forget_program program) ≤ 256) }
+{}
 
 /// Tokens are spelled by at most one tree: the grammar is not ambiguous (C11 6.8.4.1 for `else`).
-pub fn tokens_spell_at_most_one_tree(tokens: &[Token])
-    ensures { (p q : Program) → Spells p tokens.now → Spells q tokens.now → p ≡ q }
+pub fn tokens_spell_at_most_one_tree()
+    ensures { (tokens : List Token) (p q : Program) → Spells p tokens → Spells q tokens → p ≡ q }
 {}
 
 /// Tokens have at most one answer: a tree within the height, a place where the tree is too deep, or a blame, which is
 /// the least place such that no program's tokens begin with those through it.
-pub fn tokens_have_one_answer(tokens: &[Token])
-    ensures blame { (k l : ParseKind) (m n : ℕ) → Blame tokens.now k m → Blame tokens.now l n → (k ≡ l) × (m ≡ n) }
-    ensures depth { (m n : ℕ) → IsTooDeep tokens.now m → IsTooDeep tokens.now n → m ≡ n }
-    ensures tree_or_blame { (p : Program) (k : ParseKind) (m : ℕ) → IsTree tokens.now p → Blame tokens.now k m → ⊥ }
-    ensures tree_or_depth { (p : Program) (m : ℕ) → IsTree tokens.now p → IsTooDeep tokens.now m → ⊥ }
-    ensures depth_or_blame { (k : ParseKind) (m n : ℕ) → IsTooDeep tokens.now n → Blame tokens.now k m → ⊥ }
+pub fn tokens_have_one_answer()
+    ensures blame { (tokens : List Token) (k l : ParseKind) (m n : ℕ) → Blame tokens k m → Blame tokens l n → (k ≡ l) × (m ≡ n) }
+    ensures depth { (tokens : List Token) (m n : ℕ) → IsTooDeep tokens m → IsTooDeep tokens n → m ≡ n }
+    ensures tree_or_blame { (tokens : List Token) (p : Program) (k : ParseKind) (m : ℕ) → IsTree tokens p → Blame tokens k m → ⊥ }
+    ensures tree_or_depth { (tokens : List Token) (p : Program) (m : ℕ) → IsTree tokens p → IsTooDeep tokens m → ⊥ }
+    ensures depth_or_blame { (tokens : List Token) (k : ParseKind) (m n : ℕ) → IsTooDeep tokens n → Blame tokens k m → ⊥ }
 {}

@@ -127,6 +127,64 @@ const JOINS: [(&str, &str); 30] = [
     ("/\\\n", "Slash:0:1 .:3:3"),
 ];
 
+/// A run of joins between each two kinds of neighbours: with white space, a line's end, a comment or an end of the text
+/// on one side it is allowed, else it is a fault at its first backslash.
+const NEIGHBOURS: [(&str, &str); 38] = [
+    ("a\\\n1", "SplitToken 1"),
+    ("a\\\n;", "SplitToken 1"),
+    ("a\\\n#", "SplitToken 1"),
+    ("a\\\n@", "SplitToken 1"),
+    ("1\\\na", "SplitToken 1"),
+    ("1\\\n;", "SplitToken 1"),
+    ("1\\\n/", "SplitToken 1"),
+    ("1\\\n ;", "1:0:1 Semicolon:4:5 .:5:5"),
+    ("1\\\n", "1:0:1 .:3:3"),
+    (";\\\na", "SplitToken 1"),
+    (";\\\n1", "SplitToken 1"),
+    ("<\\\n<", "SplitToken 1"),
+    ("<\\\n\t<", "Less:0:1 Less:4:5 .:5:5"),
+    (".\\\n..", "SplitToken 1"),
+    ("..\\\n.", "SplitToken 2"),
+    ("#\\\npragma", "SplitToken 1"),
+    ("#\\\n pragma", "#:0:1 pragma:4:10 $:10:10 .:10:10"),
+    ("#\\\n", "#:0:1 $:3:3 .:3:3"),
+    ("a\t\\\n1", "a:0:1 1:4:5 .:5:5"),
+    ("a\x0b\\\n;", "a:0:1 Semicolon:4:5 .:5:5"),
+    ("a\x0c\\\n/b", "a:0:1 Slash:4:5 b:5:6 .:6:6"),
+    ("a\r\\\nb", "a:0:1 b:4:5 .:5:5"),
+    ("a \\\n#", "BadByte 4"),
+    (" \\\n#a", "#:3:4 a:4:5 $:5:5 .:5:5"),
+    ("a\n\\\n#b", "a:0:1 #:4:5 b:5:6 $:6:6 .:6:6"),
+    ("\\\n/a", "Slash:2:3 a:3:4 .:4:4"),
+    ("\\\n/*a*/b", "b:7:8 .:8:8"),
+    ("\\\n", ".:2:2"),
+    ("\\\r\n\\\n1", "1:5:6 .:6:6"),
+    ("/**/\\\n1", "1:6:7 .:7:7"),
+    ("/**/\\\n/**/", ".:10:10"),
+    ("//\n\\\na", "a:5:6 .:6:6"),
+    ("1\\\n//", "1:0:1 .:5:5"),
+    (";\\\n/**/1", "Semicolon:0:1 1:7:8 .:8:8"),
+    ("/ \\\n/a", "Slash:0:1 Slash:4:5 a:5:6 .:6:6"),
+    ("/\\\n\\\n*", "SplitToken 1"),
+    ("/\\\n;", "SplitToken 1"),
+    ("/\\\r\n ;", "Slash:0:1 Semicolon:5:6 .:6:6"),
+];
+
+const WHOLE_TEXTS: [(&str, &str); 3] = [
+    (
+        "void print(long long);\nint main(void) {\npr\\\nint(1);\n}\n",
+        "SplitToken 42",
+    ),
+    (
+        "int main(void) {\n#pragma omp tile sizes(4\n",
+        "int:0:3 main:4:8 RoundOpen:8:9 void:9:13 RoundClose:13:14 CurlyOpen:15:16 #:17:18 pragma:18:24 omp:25:28 tile:29:33 sizes:34:39 RoundOpen:39:40 4:40:41 $:41:41 .:42:42",
+    ),
+    (
+        "#pragma omp tile \\\r\n  sizes(2)\r\n  ;\r\n",
+        "#:0:1 pragma:1:7 omp:8:11 tile:12:16 sizes:22:27 RoundOpen:27:28 2:28:29 RoundClose:29:30 $:31:31 Semicolon:34:35 .:37:37",
+    ),
+];
+
 const DIRECTIVE_LINES: [(&str, &str); 12] = [
     (
         "#pragma omp\nx",
@@ -230,7 +288,7 @@ fn check(rt: &impl Abort, alloc: Global, table: &[(&str, &str)]) -> Result<(), F
         assert_eq!(rt; whole.as_str(), *want, "of {text:?}");
         let single = show(alloc, lex_bytes(alloc, bytes))?;
         assert_eq!(rt; single.as_str(), *want, "of {text:?}, byte by byte");
-        for cut in 0..bytes.len() {
+        for cut in 0..bytes.len() + 1 {
             let halves = show(alloc, lex_halves(alloc, bytes, cut))?;
             assert_eq!(rt; halves.as_str(), *want, "of {text:?}, cut at {cut}");
         }
@@ -247,6 +305,8 @@ fn texts_have_their_tokens_or_their_first_fault(rt: HostRuntime) -> Result<(), F
     check(&rt, rt.alloc(), &COMMENTS)?;
     check(&rt, rt.alloc(), &JOINS)?;
     check(&rt, rt.alloc(), &DIRECTIVE_LINES)?;
+    check(&rt, rt.alloc(), &NEIGHBOURS)?;
+    check(&rt, rt.alloc(), &WHOLE_TEXTS)?;
     Ok(())
 }
 

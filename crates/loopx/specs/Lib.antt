@@ -1,3 +1,4 @@
 pub mod Answer
 pub mod Status
 pub mod Words
+pub mod Commands

@@ -1,6 +1,7 @@
 //! The program: carries out the loop-transforming directives in a C text from standard input, and writes plain C.
 #![tactic(auto)]
 
+mod command;
 mod run;
 mod status;
 #[cfg(test)]

@@ -12,3 +12,5 @@ pub mod Stopping
 pub mod Wholes
 pub mod ReadExpr
 pub mod LastToken
+pub mod WellFormed
+pub mod Lexed

@@ -2,6 +2,7 @@ pub mod Symbols
 pub mod Words
 pub mod Expressions
 pub mod Directives
+pub mod Sound
 pub mod Reading
 pub mod Deep
 pub mod Machine

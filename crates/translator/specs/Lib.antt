@@ -1,2 +1,3 @@
 pub mod FirstText
 pub mod Answer
+pub mod Intake

@@ -2,5 +2,6 @@
 #![tactic(auto)]
 
 pub mod first_text;
+pub mod intake;
 pub mod refusal;
 pub mod translate;

@@ -1,0 +1,4 @@
+pub mod Breaks
+pub mod Stacks
+pub mod Congruent
+pub mod Programs

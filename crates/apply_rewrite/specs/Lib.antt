@@ -1,0 +1,4 @@
+pub mod NoBreaks
+pub mod ReverseStacks
+pub mod Rewritten
+pub mod Laws

@@ -1,0 +1,4 @@
+//! The constructs of a program carried out.
+#![tactic(auto)]
+
+pub mod laws;

@@ -1,0 +1,3 @@
+pub mod NameBreaches
+pub mod NeverStuck
+pub mod Unplaced

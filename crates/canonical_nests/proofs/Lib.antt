@@ -1,0 +1,5 @@
+pub mod Clauses
+pub mod Constants
+pub mod FirstDirective
+pub mod Statements
+pub mod Targets

@@ -1,0 +1,11 @@
+//! Loop nests that directives transform: canonical loops, the loops that directives need and give, and the loop rules,
+//! which say of a program whether its directives can be carried out.
+#![tactic(auto)]
+
+pub mod admitted;
+pub mod canonical;
+pub mod examples;
+pub mod first_directive;
+pub mod nest;
+pub mod rules;
+pub mod tall_height;
