@@ -79,9 +79,13 @@ subscript_kept es e =
 
 pub keeping : Maps Expr Exprs Kept KeptList trees keeps keep keep_list
 keeping =
-    record { num = λ n y s. refl; element = element_kept
-           ; un = λ o e s. un_kept (deep_expr e) (expr_height (forget_expr e)) o e s
-           ; bin = λ o e f s. bin_kept (deep_expr e) (deep_expr f) (expr_height (forget_expr e)) (expr_height (forget_expr f)) o e f s
-           ; cond = λ c e f s. cond_kept (deep_expr c) (deep_expr e) (deep_expr f) (expr_height (forget_expr c)) (expr_height (forget_expr e)) (expr_height (forget_expr f)) c e f s
-           ; cast = λ y e s. cast_kept (deep_expr e) (expr_height (forget_expr e)) y e s
-           ; none = refl; more = subscript_kept }
+    record {
+      num = λ n y s. refl;
+      element = element_kept;
+      un = λ o e s. un_kept (deep_expr e) (expr_height (forget_expr e)) o e s;
+      bin = λ o e f s. bin_kept (deep_expr e) (deep_expr f) (expr_height (forget_expr e)) (expr_height (forget_expr f)) o e f s;
+      cond = λ c e f s. cond_kept (deep_expr c) (deep_expr e) (deep_expr f) (expr_height (forget_expr c)) (expr_height (forget_expr e)) (expr_height (forget_expr f)) c e f s;
+      cast = λ y e s. cast_kept (deep_expr e) (expr_height (forget_expr e)) y e s;
+      none = refl;
+      more = subscript_kept;
+    }

@@ -1,5 +1,6 @@
 -- The tokens of a text end within the automaton's reach: End leads to no state.
-use Rattle.std.proofs.Common.{◌≡◌, ℕ, zero, suc, ◌<◌, List, [], ◌∷◌, length, drop, Option, Some, None, refl, sym, ap, ◌∙◌, subst, arith}
+use Rattle.std.specs.Prelude.{slice_get, option_copied, IsTrue, ◌↔◌}
+use Rattle.std.proofs.Common.{◌≡◌, ℕ, zero, suc, ◌-◌, ◌<◌, Bool, Bor, List, [], ◌∷◌, length, drop, Option, Some, None, refl, sym, ap, ◌∙◌, subst, arith}
 use Rattle.c_tree.specs.declared.tree.Span.{Span}
 use Rattle.c_lexer.specs.declared.token.Token.{Token}
 use Rattle.c_lexer.specs.declared.token.TokenKind.TheVariants as kind
@@ -64,3 +65,19 @@ ends_dropped [] n l h = absurd h
 ends_dropped (t ∷ ts) zero l h = h
 ends_dropped (t ∷ []) (suc n) l h = absurd (let z : suc n < 1 = l in omega arith)
 ends_dropped (t ∷ u ∷ ts) (suc n) l h = ends_dropped (u ∷ ts) n (let z : suc n < suc (suc (length ts)) = l in omega arith) h
+
+some_same : {a b : Token} → Some a ≡ Some b → a ≡ b
+some_same q = cc
+
+-- the last token says whether the tokens are those of a text
+ends_last : (ts : List Token) (t : Token) → slice_get ts (length ts - 1) ≡ Some t → EndsText ts ↔ (t.kind ≡ kind.End)
+ends_last [] t q = absurd (let z : None ≡ Some t = q in cc)
+ends_last (x ∷ []) t q = let e : x ≡ t = some_same q in (λ h. sym (ap (λ z. z.kind) e) ∙ h, λ h. ap (λ z. z.kind) e ∙ h)
+ends_last (x ∷ y ∷ ys) t q =
+    let e : length (x ∷ y ∷ ys) - 1 ≡ suc (length (y ∷ ys) - 1) = omega arith in
+    ends_last (y ∷ ys) t (sym (ap (slice_get (x ∷ y ∷ ys)) e) ∙ q)
+
+pub text_ends : (ts : List Token) (r : Option (Bor Token)) (b : Bor Token) (x : Bool) → option_copied r ≡ slice_get ts (length ts - 1) → r ≡ Some b → (IsTrue x ↔ (b.now.kind ≡ kind.End)) → IsTrue x ↔ EndsText ts
+text_ends ts r b x q s h =
+    let l = ends_last ts b.now (sym q ∙ ap option_copied s) in
+    (λ y. l.1 (h.0 y), λ y. h.1 (l.0 y))

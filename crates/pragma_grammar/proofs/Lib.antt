@@ -14,3 +14,5 @@ pub mod ReadExpr
 pub mod LastToken
 pub mod WellFormed
 pub mod Lexed
+pub mod OneTree
+pub mod Turns

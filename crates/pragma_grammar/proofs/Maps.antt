@@ -16,7 +16,6 @@ use Rattle.pragma_grammar.specs.Machine as m
 use Rattle.pragma_grammar.specs.Machine.{Algebra, Open, sign, casts, lhs, round, square, test, other, State, want, opened, half_long, long, typed, access, have, Move, stuck, leads, ended, asks, opens, settled, infix_of}
 
 module _ (T L U M : Type 0) (A : Algebra T L) (B : Algebra U M) (f : T → U) (g : L → M) where
-
   -- what is built of the images is the image of what is built
   pub record Maps : Type 0 where
     pub num : (n : ℕ) (ty : Ty) (s : Span) → f (A.num n ty s) ≡ B.num n ty s
@@ -110,7 +109,6 @@ module _ (T L U M : Type 0) (A : Algebra T L) (B : Algebra U M) (f : T → U) (g
   end_long_map a k t = let z = t in type_map a ty.Long k z
 
   module _ (maps : Maps) where
-
     closes_map : (k : List (Open T L)) (e : T) (e' : U) (w : Span) (t : Symbol) → f e ≡ e' → map_move (m.closes T L A k e w t) ≡ m.closes U M B (map_opens k) e' w t
     closes_map [] e e' w t p = ends_map e w t ∙ ap (λ z. m.ends_at U M z w t) p
     closes_map (sign a o ∷ k) e e' w t p =

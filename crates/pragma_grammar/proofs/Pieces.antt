@@ -38,29 +38,42 @@ mutual
   piece_of (named {x = x} {a = a} h) = let q = pieces_of h in record { piece = name x a ∷ q.piece; parts = ap (λ z. name x a ∷ z) q.parts; any = λ vs. named (q.any vs) }
   piece_of (parens {r = r} {e = e} {a = a} {w = w} {z = z} {us = us} h) =
       let q = piece_of h in
-      record { piece = punct RoundOpen a ∷ (q.piece ++ punct RoundClose z ∷ []); parts = ap (λ y. punct RoundOpen a ∷ y) (glue q.piece [] us (punct RoundClose z) _ us q.parts refl)
-             ; any = λ vs. parens (subst (λ y. Phrase 0 e w y (punct RoundClose z ∷ vs)) (sym (append_assoc q.piece (punct RoundClose z ∷ []) vs)) (q.any (punct RoundClose z ∷ vs))) }
+      record {
+        piece = punct RoundOpen a ∷ (q.piece ++ punct RoundClose z ∷ []);
+        parts = ap (λ y. punct RoundOpen a ∷ y) (glue q.piece [] us (punct RoundClose z) _ us q.parts refl);
+        any = λ vs. parens (subst (λ y. Phrase 0 e w y (punct RoundClose z ∷ vs)) (sym (append_assoc q.piece (punct RoundClose z ∷ []) vs)) (q.any (punct RoundClose z ∷ vs)));
+      }
   piece_of (unary {t = t} u l h) = let q = piece_of h in record { piece = t ∷ q.piece; parts = ap (λ y. t ∷ y) q.parts; any = λ vs. unary u l (q.any vs) }
   piece_of (convert {ty = y} {a = a} {z = z} {vs = us} l n h) =
       let p = type_piece n in
       let q = piece_of h in
-      record { piece = punct RoundOpen a ∷ (p.piece ++ punct RoundClose z ∷ q.piece); parts = ap (λ y. punct RoundOpen a ∷ y) (glue p.piece q.piece us (punct RoundClose z) _ _ p.parts q.parts)
-             ; any = λ vs. convert l (subst (λ x. TypeName y x (punct RoundClose z ∷ q.piece ++ vs)) (sym (append_assoc p.piece (punct RoundClose z ∷ q.piece) vs)) (p.any (punct RoundClose z ∷ q.piece ++ vs))) (q.any vs) }
+      record {
+        piece = punct RoundOpen a ∷ (p.piece ++ punct RoundClose z ∷ q.piece);
+        parts = ap (λ y. punct RoundOpen a ∷ y) (glue p.piece q.piece us (punct RoundClose z) _ _ p.parts q.parts);
+        any = λ vs. convert l (subst (λ x. TypeName y x (punct RoundClose z ∷ q.piece ++ vs)) (sym (append_assoc p.piece (punct RoundClose z ∷ q.piece) vs)) (p.any (punct RoundClose z ∷ q.piece ++ vs))) (q.any vs);
+      }
   piece_of (binary {t = t} {o = o} {e = e} {v = v} {vs = us} u l h k) =
       let p = piece_of h in
       let q = piece_of k in
-      record { piece = p.piece ++ t ∷ q.piece; parts = glue p.piece q.piece us t _ _ p.parts q.parts
-             ; any = λ vs. binary u l (subst (λ x. Phrase (row o) e v x (t ∷ q.piece ++ vs)) (sym (append_assoc p.piece (t ∷ q.piece) vs)) (p.any (t ∷ q.piece ++ vs))) (q.any vs) }
+      record {
+        piece = p.piece ++ t ∷ q.piece;
+        parts = glue p.piece q.piece us t _ _ p.parts q.parts;
+        any = λ vs. binary u l (subst (λ x. Phrase (row o) e v x (t ∷ q.piece ++ vs)) (sym (append_assoc p.piece (t ∷ q.piece) vs)) (p.any (t ∷ q.piece ++ vs))) (q.any vs);
+      }
   piece_of (choice {c = c} {e = e} {u = u} {v = v} {y = y} {z = z} {ws = us} l h i j) =
       let p = piece_of h in
       let q = piece_of i in
       let o = piece_of j in
       let ask = punct Question y in
       let colon = punct Colon z in
-      record { piece = p.piece ++ ask ∷ (q.piece ++ colon ∷ o.piece); parts = glue p.piece (q.piece ++ colon ∷ o.piece) us ask _ _ p.parts (glue q.piece o.piece us colon _ _ q.parts o.parts)
-             ; any = λ vs. choice l (subst (λ x. Phrase 1 c u x (ask ∷ (q.piece ++ colon ∷ o.piece) ++ vs)) (sym (append_assoc p.piece (ask ∷ (q.piece ++ colon ∷ o.piece)) vs)) (p.any (ask ∷ (q.piece ++ colon ∷ o.piece) ++ vs)))
-                               (subst (λ x. Phrase 0 e v x (colon ∷ o.piece ++ vs)) (sym (append_assoc q.piece (colon ∷ o.piece) vs)) (q.any (colon ∷ o.piece ++ vs)))
-                               (o.any vs) }
+      record {
+        piece = p.piece ++ ask ∷ (q.piece ++ colon ∷ o.piece);
+        parts = glue p.piece (q.piece ++ colon ∷ o.piece) us ask _ _ p.parts (glue q.piece o.piece us colon _ _ q.parts o.parts);
+        any = λ vs. choice l (subst (λ x. Phrase 1 c u x (ask ∷ (q.piece ++ colon ∷ o.piece) ++ vs)) (sym (append_assoc p.piece (ask ∷ (q.piece ++ colon ∷ o.piece)) vs)) (p.any (ask ∷ (q.piece ++ colon ∷ o.piece) ++ vs)))
+            (subst (λ x. Phrase 0 e v x (colon ∷ o.piece ++ vs)) (sym (append_assoc q.piece (colon ∷ o.piece) vs)) (q.any (colon ∷ o.piece ++ vs)))
+            (o.any vs);
+      }
+
   pub pieces_of : {es : Exprs} {a z : Span} {ts us : List Symbol} → Subscripts es a z ts us → Pieces es a z ts us
   pieces_of no_more = record { piece = []; parts = refl; any = λ vs. no_more }
   pieces_of (one_more {e = e} {b = b} {w = w} {y = y} {vs = us} h a) =
@@ -68,5 +81,8 @@ mutual
       let q = pieces_of a in
       let open_ = punct SquareOpen b in
       let close = punct SquareClose y in
-      record { piece = open_ ∷ (p.piece ++ close ∷ q.piece); parts = ap (λ z. open_ ∷ z) (glue p.piece q.piece us close _ _ p.parts q.parts)
-             ; any = λ vs. one_more (subst (λ x. Phrase 0 e w x (close ∷ q.piece ++ vs)) (sym (append_assoc p.piece (close ∷ q.piece) vs)) (p.any (close ∷ q.piece ++ vs))) (q.any vs) }
+      record {
+        piece = open_ ∷ (p.piece ++ close ∷ q.piece);
+        parts = ap (λ z. open_ ∷ z) (glue p.piece q.piece us close _ _ p.parts q.parts);
+        any = λ vs. one_more (subst (λ x. Phrase 0 e w x (close ∷ q.piece ++ vs)) (sym (append_assoc p.piece (close ∷ q.piece) vs)) (p.any (close ∷ q.piece ++ vs))) (q.any vs);
+      }

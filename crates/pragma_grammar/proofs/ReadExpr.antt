@@ -12,8 +12,13 @@ use Rattle.c_tree.specs.declared.tree.Span.{Span}
 use Rattle.c_tree.proofs.Forgotten.Exprs.{bare_expr_is}
 use Rattle.c_lexer.specs.declared.token.Token.{Token}
 use Rattle.c_lexer.specs.declared.token.TokenKind.TheVariants as kind
+use Rattle.pragma_grammar.specs.declared.operand.Operand.{Operand}
+use Rattle.pragma_grammar.specs.declared.operand.Operand.TheVariants.{Tree, Deep as TooDeep}
+use Rattle.pragma_grammar.specs.declared.reading.Reading.{Reading}
+use Rattle.pragma_grammar.specs.declared.reading.Reading.TheVariants.{Whole as Ended, Fault as Faulty}
 use Rattle.pragma_grammar.specs.declared.phrase.ParseFault.{ParseFault}
 use Rattle.pragma_grammar.specs.declared.phrase.ParseFault.TheVariants.{At}
+use Rattle.pragma_grammar.specs.declared.phrase.Phrase.{Phrase}
 use Rattle.pragma_grammar.specs.declared.phrase.Phrase.TheVariants.{Whole, Deep}
 use Rattle.pragma_grammar.specs.Symbols.{Symbol, symbol, symbols, end, place, spanning}
 use Rattle.pragma_grammar.proofs.Terminals.{symbol_place}
@@ -31,7 +36,7 @@ use Rattle.pragma_grammar.proofs.Places.{spanned, Spanned, last_of, Last, none_e
 
 -- ---- what is kept of an outcome
 
-abbrev keep_outcome : Outcome → stands.Outcome
+abbrev pub keep_outcome : Outcome → stands.Outcome
 keep_outcome (machine.whole e w n) = machine.whole (keep e) w n
 keep_outcome (machine.fault n) = machine.fault n
 keep_outcome machine.unfinished = machine.unfinished
@@ -133,10 +138,10 @@ get_drop (x ∷ xs) (suc m) i = get_drop xs m i ∙ ap (slice_get (x ∷ xs)) (l
 first_same : {s t : Symbol} {ss ts : List Symbol} → s ∷ ss ≡ t ∷ ts → s ≡ t
 first_same q = cc
 
-abbrev pair : Expr → Span → Expr × Span
+abbrev pub pair : Expr → Span → Expr × Span
 pair e w = (e, w)
 
-pair_same : (e f : Expr) (v w : Span) → e ≡ f → v ≡ w → pair e v ≡ pair f w
+pub pair_same : (e f : Expr) (v w : Span) → e ≡ f → v ≡ w → pair e v ≡ pair f w
 pair_same e f v w p q = ap (λ x. pair x v) p ∙ ap (λ x. pair f x) q
 
 -- where the tokens of a phrase begin and end
@@ -157,8 +162,10 @@ standing tokens at next w (t ∷ before) token rest q e s =
     let j : at ≡ at + 0 = omega arith in
     let head : slice_get tokens at ≡ Some t = ap (slice_get tokens) j ∙ sym (get_drop tokens at 0) ∙ ap (λ z. slice_get z 0) q in
     let f : place s.first ≡ t.span = (let z : s.first ∷ s.more ≡ symbol t ∷ symbols (before ++ token ∷ rest) = sym s.parts ∙ p in ap place (first_same z)) ∙ symbol_place t in
-    record { forward = omega arith
-           ; is = s.is ∙ ap (λ x. spanning x s.last) f ∙ ap (λ x. spanning t.span x) l.stands ∙ ap (λ x. spanning (span_or_none x) l.token.span) (sym head) ∙ ap (λ x. spanning (span_or_none (slice_get tokens at)) (span_or_none x)) (sym last) }
+    record {
+      forward = omega arith;
+      is = s.is ∙ ap (λ x. spanning x s.last) f ∙ ap (λ x. spanning t.span x) l.stands ∙ ap (λ x. spanning (span_or_none x) l.token.span) (sym head) ∙ ap (λ x. spanning (span_or_none (slice_get tokens at)) (span_or_none x)) (sym last);
+    }
 
 -- what the automaton over the trees finds at an index
 record Here (tokens : List Token) (at next : ℕ) (e : Expr) : Type 0 where
@@ -207,6 +214,30 @@ fault_answer tokens at i answer l m q f =
     let got : slice_get tokens i ≡ Some b.token = ap (slice_get tokens) (let z : i ≡ i + 0 = omega arith in z) ∙ sym (get_drop tokens i 0) ∙ ap (λ z. slice_get z 0) d in
     let rest : drop (i + 1) tokens ≡ b.rest = sym (drop-drop 1 i tokens) ∙ ap (drop 1) d in
     let made : IsExprRead tokens at (Err (At (blamed_as b.token b.rest) b.token.span.start)) =
-        record { before = b.before; token = b.token; rest = b.rest; parts = b.parts; at_place = refl; of_kind = refl
-               ; tree = (b.tree, b.stands); more = b.more; begins = b.begins; none = λ p vs us h z. b.none p.0 p.1 vs us h z } in
+    record {
+      before = b.before;
+      token = b.token;
+      rest = b.rest;
+      parts = b.parts;
+      at_place = refl;
+      of_kind = refl;
+      tree = (b.tree, b.stands);
+      more = b.more;
+      begins = b.begins;
+      none = λ p vs us h z. b.none p.0 p.1 vs us h z;
+    } in
     subst (λ x. IsExprRead tokens at (Err x)) (sym (f b.token got ∙ ap (λ x. At (blamed_as b.token x) b.token.span.start) rest)) made
+
+whole_of : (tokens : List Token) (at next : ℕ) (operand : Operand) (w : Span) → at ≤ next → next < length tokens → machine.whole (stands.kept_of operand) w (length tokens - next) ≡ stands.outcome (drop at tokens) (want []) → IsExprRead tokens at (Ok (stands.phrase_of operand next))
+whole_of tokens at next (Tree tree height) w l m q = tree_answer tokens at next tree height w l m q
+whole_of tokens at next (TooDeep place) w l m q = deep_answer tokens at next place w l m q
+
+pub whole_answer : (tokens : List Token) (at next : ℕ) (r : Reading) (operand : Operand) (w : Span) (p : Phrase code.Expr) → stands.read_as r (length tokens) ≡ stands.outcome (drop at tokens) (want []) → stands.Within r at (length tokens) → r ≡ Ended operand w next → p ≡ stands.phrase_of operand next → IsExprRead tokens at (Ok p)
+whole_answer tokens at next r operand w p q b e f =
+    let c = subst (λ z. stands.Within z at (length tokens)) e b in
+    subst (λ z. IsExprRead tokens at (Ok z)) (sym f) (whole_of tokens at next operand w c.0 c.1 (subst (λ z. stands.read_as z (length tokens) ≡ stands.outcome (drop at tokens) (want [])) e q))
+
+pub blamed_answer : (tokens : List Token) (at i : ℕ) (r : Reading) (answer : ParseFault) → stands.read_as r (length tokens) ≡ stands.outcome (drop at tokens) (want []) → stands.Within r at (length tokens) → r ≡ Faulty i → ((t : Token) → slice_get tokens i ≡ Some t → answer ≡ At (blamed_as t (drop (i + 1) tokens)) t.span.start) → IsExprRead tokens at (Err answer)
+blamed_answer tokens at i r answer q b e f =
+    let c = subst (λ z. stands.Within z at (length tokens)) e b in
+    fault_answer tokens at i answer c.0 c.1 (subst (λ z. stands.read_as z (length tokens) ≡ stands.outcome (drop at tokens) (want [])) e q) f

@@ -54,7 +54,6 @@ asks_choice : (a : Span) → Operates (punct Question a) 0
 asks_choice a s r l m b = (Choice, both_true (leb s 0) (leb 1 r) Choice (leb_holds s 0 (leb s 0) refl l) (leb_holds 1 r (leb 1 r) refl b))
 
 module _ (t : Symbol) (n : ℕ) (low : n ≤ 6) (goes : Operates t n) where
-
   -- an operand after which the symbol doesn't go on stands where only tighter phrases may
   settled_ahead : (k : List Open) (r : ℕ) (e : Expr) (w : Span) (i : Option Infix) → infix_of (asks k) r t ≡ i → n ≤ r → 1 ≤ r → (n < asks k → GoesAhead (closes k e w t)) → GoesAhead (settled Expr Exprs i e w k (closes k e w t))
   settled_ahead k r e w (Some i) q l b ih = tt

@@ -109,16 +109,30 @@ ending_step s t ts e w n stuck i o x ih z = absurd (let y : fault (length (t ∷
 ending_step s t ts e w n (leads s') i o x ih z =
     let r = ih s' x z in
     let p = reading e w (symbols (r.token ∷ r.rest)) in
-    record { token = r.token; rest = r.rest; before = t ∷ r.before; parts = ap (λ l. t ∷ l) r.parts; counted = r.counted; stopped = r.stopped
-           ; from = Steps.step_from Reading Exactly p s (symbol t) (symbols ts) o (subst (λ m. MovesExactly p m (symbol t) (symbols ts)) (sym i) r.from)
-           ; to = λ p h. r.to p (subst (λ m. Moves p m (symbol t) (symbols ts)) i (Steps.step_to Reading Stopped bounds p s (symbol t) (symbols ts) h)) }
+    record {
+      token = r.token;
+      rest = r.rest;
+      before = t ∷ r.before;
+      parts = ap (λ l. t ∷ l) r.parts;
+      counted = r.counted;
+      stopped = r.stopped;
+      from = Steps.step_from Reading Exactly p s (symbol t) (symbols ts) o (subst (λ m. MovesExactly p m (symbol t) (symbols ts)) (sym i) r.from);
+      to = λ p h. r.to p (subst (λ m. Moves p m (symbol t) (symbols ts)) i (Steps.step_to Reading Stopped bounds p s (symbol t) (symbols ts) h));
+    }
 ending_step s t ts e w n (ended a b) i o x ih z =
     let tree : a ≡ e = same_tree z in
     let stands : b ≡ w = same_place z in
     let p = reading e w (symbols (t ∷ ts)) in
-    record { token = t; rest = ts; before = []; parts = refl; counted = same_count z; stopped = stops (ended_stops s (symbol t) a b i)
-           ; from = Steps.step_from Reading Exactly p s (symbol t) (symbols ts) o (subst (λ m. MovesExactly p m (symbol t) (symbols ts)) (sym i) (record { tree = sym tree; stands = sym stands; rest = refl }))
-           ; to = λ p h. subst (λ x. Stopped p x w (symbols (t ∷ ts))) tree (subst (λ x. Stopped p a x (symbols (t ∷ ts))) stands (subst (λ m. Moves p m (symbol t) (symbols ts)) i (Steps.step_to Reading Stopped bounds p s (symbol t) (symbols ts) h))) }
+    record {
+      token = t;
+      rest = ts;
+      before = [];
+      parts = refl;
+      counted = same_count z;
+      stopped = stops (ended_stops s (symbol t) a b i);
+      from = Steps.step_from Reading Exactly p s (symbol t) (symbols ts) o (subst (λ m. MovesExactly p m (symbol t) (symbols ts)) (sym i) (record { tree = sym tree; stands = sym stands; rest = refl }));
+      to = λ p h. subst (λ x. Stopped p x w (symbols (t ∷ ts))) tree (subst (λ x. Stopped p a x (symbols (t ∷ ts))) stands (subst (λ m. Moves p m (symbol t) (symbols ts)) i (Steps.step_to Reading Stopped bounds p s (symbol t) (symbols ts) h)));
+    }
 
 ending : (e : Expr) (w : Span) (n : ℕ) (ts : List Token) (s : State) → SoundState s → outcome ts s ≡ whole e w n → Ending s ts e w n
 ending e w n [] s o q = absurd (let z : unfinished ≡ whole e w n = q in cc)
@@ -126,7 +140,6 @@ ending e w n (t ∷ ts) s o q = ending_step s t ts e w n (step s (symbol t)) ref
 
 exact_phrase : (e a : Expr) (w b : Span) (us vs ts : List Symbol) → Phrase 0 a b ts vs → Exactly (reading e w us) a b vs → Phrase 0 e w ts us
 exact_phrase e a w b us vs ts q h = subst (λ x. Phrase 0 x w ts us) (sym h.tree) (subst (λ x. Phrase 0 a x ts us) (sym h.stands) (subst (λ x. Phrase 0 a b ts x) (sym h.rest) q))
-
 
 -- the tokens that the automaton reads as an expression are the whole one
 pub record Found (ts : List Token) (e : Expr) (w : Span) (n : ℕ) : Type 0 where
@@ -142,9 +155,16 @@ pub record Found (ts : List Token) (e : Expr) (w : Span) (n : ℕ) : Type 0 wher
 pub found : (e : Expr) (w : Span) (n : ℕ) (ts : List Token) → outcome ts (want []) ≡ whole e w n → Found ts e w n
 found e w n ts q =
     let r = ending e w n ts (want []) tt q in
-    record { before = r.before; token = r.token; rest = r.rest; parts = r.parts; counted = r.counted; stops = r.stopped
-           ; phrase = exact_phrase e r.from.whole w r.from.stands (symbols (r.token ∷ r.rest)) r.from.rest (symbols ts) r.from.phrase r.from.after
-           ; only = λ e' w' us h k. let z = r.to (reading e' w' us) (record { whole = e'; stands = w'; rest = us; phrase = h; after = record { tree = refl; stands = refl; rest = refl; stops = k } }) in (sym z.tree, sym z.stands, sym z.rest) }
+    record {
+      before = r.before;
+      token = r.token;
+      rest = r.rest;
+      parts = r.parts;
+      counted = r.counted;
+      stops = r.stopped;
+      phrase = exact_phrase e r.from.whole w r.from.stands (symbols (r.token ∷ r.rest)) r.from.rest (symbols ts) r.from.phrase r.from.after;
+      only = λ e' w' us h k. let z = r.to (reading e' w' us) (record { whole = e'; stands = w'; rest = us; phrase = h; after = record { tree = refl; stands = refl; rest = refl; stops = k } }) in (sym z.tree, sym z.stands, sym z.rest);
+    }
 
 -- ---- a fault
 
@@ -168,14 +188,28 @@ record Faulty (s : State) (ts : List Token) (n : ℕ) : Type 0 where
 faulty_step : (s : State) (t : Token) (ts : List Token) (n : ℕ) (m : Move) → step s (symbol t) ≡ m → SoundState s → SoundNext m → ((s' : State) → SoundState s' → outcome ts s' ≡ fault n → Faulty s' ts n) → after m (length (t ∷ ts)) (outcome ts) ≡ fault n → Faulty s (t ∷ ts) n
 faulty_step s t ts n stuck i o x ih z =
     let d = Ends.complete (Unit {0}) Alone closed s o in
-    record { before = []; token = t; rest = ts; parts = refl; counted = same_fault z
-           ; none = λ vs p h. subst (λ m. Moves p m (symbol t) vs) i (Steps.step_to Reading Stopped bounds p s (symbol t) vs h)
-           ; more = d.tokens; some = d.completes }
+    record {
+      before = [];
+      token = t;
+      rest = ts;
+      parts = refl;
+      counted = same_fault z;
+      none = λ vs p h. subst (λ m. Moves p m (symbol t) vs) i (Steps.step_to Reading Stopped bounds p s (symbol t) vs h);
+      more = d.tokens;
+      some = d.completes;
+    }
 faulty_step s t ts n (leads s') i o x ih z =
     let r = ih s' x z in
-    record { before = t ∷ r.before; token = r.token; rest = r.rest; parts = ap (λ l. t ∷ l) r.parts; counted = r.counted
-           ; none = λ vs p h. r.none vs p (subst (λ m. Moves p m (symbol t) (symbols r.before ++ symbol r.token ∷ vs)) i (Steps.step_to Reading Stopped bounds p s (symbol t) (symbols r.before ++ symbol r.token ∷ vs) h))
-           ; more = r.more; some = Steps.step_from (Unit {0}) Alone tt s (symbol t) (symbols (r.before ++ r.more)) o (subst (λ m. Follows.Moves (Unit {0}) Alone tt m (symbol t) (symbols (r.before ++ r.more))) (sym i) r.some) }
+    record {
+      before = t ∷ r.before;
+      token = r.token;
+      rest = r.rest;
+      parts = ap (λ l. t ∷ l) r.parts;
+      counted = r.counted;
+      none = λ vs p h. r.none vs p (subst (λ m. Moves p m (symbol t) (symbols r.before ++ symbol r.token ∷ vs)) i (Steps.step_to Reading Stopped bounds p s (symbol t) (symbols r.before ++ symbol r.token ∷ vs) h));
+      more = r.more;
+      some = Steps.step_from (Unit {0}) Alone tt s (symbol t) (symbols (r.before ++ r.more)) o (subst (λ m. Follows.Moves (Unit {0}) Alone tt m (symbol t) (symbols (r.before ++ r.more))) (sym i) r.some);
+    }
 faulty_step s t ts n (ended a b) i o x ih z = absurd (let y : whole a b (length (t ∷ ts)) ≡ fault n = z in cc)
 
 faulty : (n : ℕ) (ts : List Token) (s : State) → SoundState s → outcome ts s ≡ fault n → Faulty s ts n
@@ -204,6 +238,15 @@ any_rest e w ts us h q vs =
 pub blamed : (n : ℕ) (ts : List Token) → outcome ts (want []) ≡ fault n → Blamed ts n
 blamed n ts q =
     let r = faulty n ts (want []) tt q in
-    record { before = r.before; token = r.token; rest = r.rest; parts = r.parts; counted = r.counted
-           ; none = λ e w vs us h k. r.none vs (reading e w us) (record { whole = e; stands = w; rest = us; phrase = h; after = record { tree = refl; stands = refl; rest = refl; stops = k } })
-           ; tree = r.some.whole; stands = r.some.stands; more = r.more; begins = any_rest r.some.whole r.some.stands (symbols (r.before ++ r.more)) r.some.rest r.some.phrase r.some.after }
+    record {
+      before = r.before;
+      token = r.token;
+      rest = r.rest;
+      parts = r.parts;
+      counted = r.counted;
+      none = λ e w vs us h k. r.none vs (reading e w us) (record { whole = e; stands = w; rest = us; phrase = h; after = record { tree = refl; stands = refl; rest = refl; stops = k } });
+      tree = r.some.whole;
+      stands = r.some.stands;
+      more = r.more;
+      begins = any_rest r.some.whole r.some.stands (symbols (r.before ++ r.more)) r.some.rest r.some.phrase r.some.after;
+    }

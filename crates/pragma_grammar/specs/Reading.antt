@@ -2,6 +2,7 @@
 use Rattle.std.specs.Prelude.{◌≡◌, ℕ, ◌-◌, ◌≤◌, ◌<◌, Bool, true, false, cond, List, [], ◌∷◌, ◌++◌, length, drop, slice_get, Option, Some, None, Result, Ok, Err}
 use Rattle.c_tree.specs.Placed.{Expr, Directive}
 use Rattle.c_tree.specs.PlacedOf.{placed_expr, placed_directive}
+use Rattle.c_tree.specs.Forget.{forget_expr}
 use Rattle.c_tree.specs.BareOf.{bare_expr, bare_directive}
 use Rattle.c_tree.specs.Height.{expr_height, directive_height}
 use Rattle.c_tree.specs.declared.tree.Span.{Span}
@@ -91,6 +92,10 @@ pub data GoesOn : Symbol → Type 0 where
 -- some symbol stands here, and it doesn't go on with an expression
 pub data Stops : List Symbol → Type 0 where
   stops : {t : Symbol} {ts : List Symbol} → (GoesOn t → ⊥) → Stops (t ∷ ts)
+
+-- some place is too deep exactly where the height is above 256
+abbrev pub DeepWhereAbove : Expr → Type 0
+DeepWhereAbove e = (deep_expr e ≡ None → expr_height (forget_expr e) ≤ 256) × (expr_height (forget_expr e) ≤ 256 → deep_expr e ≡ None)
 
 abbrev pub WholeExpr : List Symbol → Expr × Span → List Symbol → Type 0
 WholeExpr = IsWhole (Expr × Span) SpelledExpr Stops

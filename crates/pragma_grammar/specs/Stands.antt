@@ -2,6 +2,8 @@
 use Rattle.std.specs.Prelude.{ℕ, ◌<◌, ◌≤◌, ◌-◌, List, [], ◌∷◌, length}
 use Rattle.c_tree.specs.PlacedOf.{placed_expr, placed_exprs}
 use Rattle.c_tree.specs.declared.tree.Span.{Span}
+use Rattle.c_tree.specs.declared.tree.Ty.{Ty}
+use Rattle.c_tree.specs.declared.tree.Ty.TheVariants as ty
 use Rattle.c_tree.specs.declared.tree.Expr.{Expr}
 use Rattle.c_lexer.specs.declared.token.Token.{Token}
 use Rattle.pragma_grammar.specs.declared.phrase.Phrase.{Phrase}
@@ -43,7 +45,7 @@ KeptMove = machine.Move Kept KeptList
 
 abbrev pub phrase : Open → KeptOpen
 phrase (o.Sign at op) = machine.sign at op
-phrase (o.Casts at ty) = machine.casts at ty
+phrase (o.Casts at type) = machine.casts at type
 phrase (o.Left left at op) = machine.lhs (kept_of left) at op
 phrase (o.Round at) = machine.round at
 phrase (o.Square name at subscripts) = machine.square name at (kept_list_of subscripts)
@@ -63,7 +65,7 @@ stands s.Want k = machine.want k
 stands (s.Opened at) k = machine.opened at k
 stands (s.HalfLong at) k = machine.half_long at k
 stands (s.Long at) k = machine.long at k
-stands (s.Typed at ty) k = machine.typed at ty k
+stands (s.Typed at type) k = machine.typed at type k
 stands (s.Access name at subscripts last) k = machine.access name at (kept_list_of subscripts) last k
 stands (s.Have operand at) k = machine.have (kept_of operand) at k
 
@@ -90,6 +92,11 @@ abbrev pub came : Move → List KeptOpen → KeptMove
 came m.Stuck k = machine.stuck
 came (m.Leads s) k = machine.leads (stands s k)
 came (m.Ended operand at) k = machine.ended (kept_of operand) at
+
+-- what stands after the first word of a type's name
+abbrev pub begun : Span → Ty → List KeptOpen → KeptState
+begun at ty.Int k = machine.typed at ty.Int k
+begun at ty.Long k = machine.half_long at k
 
 -- what a turn leads to in the end
 abbrev pub turned : Turn → List KeptOpen → Symbol → KeptMove

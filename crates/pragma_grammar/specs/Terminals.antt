@@ -1,6 +1,8 @@
 -- A symbol without its place, the spelling of a name and the value of a number.
-use Rattle.std.specs.Prelude.{ℕ, leb, cond, Option, Some, None}
+use Rattle.std.specs.Prelude.{ℕ, Bool, true, false, leb, cond, Option, Some, None}
 use Rattle.c_tree.specs.Bare.{Name}
+use Rattle.c_tree.specs.declared.tree.Ty.{Ty}
+use Rattle.c_tree.specs.declared.tree.Ty.TheVariants as ty
 use Rattle.c_tree.specs.declared.tree.UnOp.{UnOp}
 use Rattle.c_tree.specs.declared.tree.UnOp.TheVariants as u
 use Rattle.c_tree.specs.declared.tree.BinOp.{BinOp}
@@ -61,3 +63,22 @@ binary_terminal _ = None
 abbrev pub infix_terminal : ℕ → ℕ → Terminal → Option Infix
 infix_terminal s r (t.Punct p.Question) = both (leb s 0) (leb 1 r) Choice
 infix_terminal s r t = between s r (binary_terminal t)
+
+-- the punctuators that close or open an operand
+abbrev pub is_square_open : Terminal → Bool
+is_square_open (t.Punct p.SquareOpen) = true
+is_square_open _ = false
+
+abbrev pub is_square_close : Terminal → Bool
+is_square_close (t.Punct p.SquareClose) = true
+is_square_close _ = false
+
+abbrev pub is_colon : Terminal → Bool
+is_colon (t.Punct p.Colon) = true
+is_colon _ = false
+
+-- the word that begins a type's name: `int` is one, `long` wants another
+abbrev pub begun_type : Terminal → Option Ty
+begun_type (t.Keyword k.Int) = Some ty.Int
+begun_type (t.Keyword k.Long) = Some ty.Long
+begun_type _ = None

@@ -1,6 +1,7 @@
 //! The reader of expressions.
 
-ghost use Rattle.std.specs.Prelude.{◌≡◌, ◌<◌, length};
+ghost use Rattle.std.specs.Prelude.{◌≡◌, ◌<◌, ◌↔◌, length, IsTrue};
+ghost use Rattle.c_lexer.specs.declared.token.TokenKind.{TokenKind};
 ghost use Rattle.pragma_grammar.specs.Reading.{EndsText, IsExprRead};
 ghost use Rattle.pragma_grammar.specs.Stands.{phrase_of};
 
@@ -8,7 +9,7 @@ use crate::blame::blamed;
 use crate::operand::Operand;
 use crate::phrase::{ParseFault, Phrase};
 use crate::reading::{Reading, run};
-use c_lexer::token::Token;
+use c_lexer::token::{Token, TokenKind};
 use c_tree::tree::Expr;
 use std::alloc::Global;
 
@@ -33,5 +34,24 @@ pub fn read_expr(alloc: Global, tokens: &[Token], at: usize) -> Result<Phrase<Ex
     match run(alloc, tokens, at)? {
         Reading::Whole { operand, next, .. } => Ok(phrase(operand, next)),
         Reading::Fault(fault) => Err(blamed(tokens, fault)),
+    }
+}
+
+/// Do the tokens end with End, as a text's do?
+pub fn ends_text(tokens: &[Token]) -> bool
+    ensures { IsTrue result ↔ EndsText tokens.now }
+{
+    match tokens.last() {
+        Some(token) => is_end(token),
+        None => false,
+    }
+}
+
+fn is_end(token: &Token) -> bool
+    ensures { IsTrue result ↔ (token.now.kind ≡ TokenKind.End) }
+{
+    match token.kind {
+        TokenKind::End => true,
+        _ => false,
     }
 }

@@ -3,6 +3,7 @@
 
 mod blame;
 pub mod expression;
+pub mod laws;
 mod open_phrase;
 mod operand;
 mod operators;

@@ -15,13 +15,36 @@ pub enum Infix {
 /// parentheses included.
 #[derive(Drop)]
 pub enum Open {
-    Sign { at: Span, op: UnOp },
-    Casts { at: Span, ty: Ty },
-    Left { left: Operand, at: Span, op: BinOp },
-    Round { at: Span },
-    Square { name: Name, at: Span, subscripts: Subscripts },
-    Test { test: Operand, at: Span },
-    Other { test: Operand, at: Span, yes: Operand },
+    Sign {
+        at: Span,
+        op: UnOp,
+    },
+    Casts {
+        at: Span,
+        ty: Ty,
+    },
+    Left {
+        left: Operand,
+        at: Span,
+        op: BinOp,
+    },
+    Round {
+        at: Span,
+    },
+    Square {
+        name: Name,
+        at: Span,
+        subscripts: Subscripts,
+    },
+    Test {
+        test: Operand,
+        at: Span,
+    },
+    Other {
+        test: Operand,
+        at: Span,
+        yes: Operand,
+    },
 }
 
 /// What stands between two tokens.
@@ -31,18 +54,35 @@ pub enum State {
     Want,
 
     /// A parenthesis was opened, for a phrase or a type's name.
-    Opened { at: Span },
+    Opened {
+        at: Span,
+    },
 
     /// A type's name was begun by `long`, by `long long`, or is whole.
-    HalfLong { at: Span },
-    Long { at: Span },
-    Typed { at: Span, ty: Ty },
+    HalfLong {
+        at: Span,
+    },
+    Long {
+        at: Span,
+    },
+    Typed {
+        at: Span,
+        ty: Ty,
+    },
 
     /// A name, with its subscripts so far; the last token of them stands at `last`.
-    Access { name: Name, at: Span, subscripts: Subscripts, last: Span },
+    Access {
+        name: Name,
+        at: Span,
+        subscripts: Subscripts,
+        last: Span,
+    },
 
     /// An operand.
-    Have { operand: Operand, at: Span },
+    Have {
+        operand: Operand,
+        at: Span,
+    },
 }
 
 /// What a token does: it fits nowhere, it leads to a state, or it comes after the whole expression and isn't taken.

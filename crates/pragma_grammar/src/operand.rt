@@ -63,7 +63,7 @@ pub fn unary(alloc: Global, op: UnOp, operand: Operand, span: Span) -> Result<Op
     ensures { IfOk result (λ r. kept_of r ≡ keep_un op (kept_of operand) span) }
 {
     match operand {
-        Operand::Deep(place) => Ok(Operand::Deep(place)),
+        Operand::Deep(inner) => Ok(Operand::Deep(inner)),
         Operand::Tree { tree, height } => {
             let of = Boxed::new(alloc, tree)?;
             Ok(node(Expr::Un { op, of, span }, height, span))
@@ -71,7 +71,12 @@ pub fn unary(alloc: Global, op: UnOp, operand: Operand, span: Span) -> Result<Op
     }
 }
 
-pub fn conversion(alloc: Global, ty: Ty, operand: Operand, span: Span) -> Result<Operand, AllocError>
+pub fn conversion(
+    alloc: Global,
+    ty: Ty,
+    operand: Operand,
+    span: Span,
+) -> Result<Operand, AllocError>
     ensures { IfOk result (λ r. kept_of r ≡ keep_cast ty (kept_of operand) span) }
 {
     match operand {
@@ -83,7 +88,13 @@ pub fn conversion(alloc: Global, ty: Ty, operand: Operand, span: Span) -> Result
     }
 }
 
-pub fn binary(alloc: Global, op: BinOp, left: Operand, right: Operand, span: Span) -> Result<Operand, AllocError>
+pub fn binary(
+    alloc: Global,
+    op: BinOp,
+    left: Operand,
+    right: Operand,
+    span: Span,
+) -> Result<Operand, AllocError>
     ensures { IfOk result (λ r. kept_of r ≡ keep_bin op (kept_of left) (kept_of right) span) }
 {
     match left {
@@ -92,7 +103,14 @@ pub fn binary(alloc: Global, op: BinOp, left: Operand, right: Operand, span: Spa
     }
 }
 
-fn binary_after(alloc: Global, op: BinOp, left: Expr, left_height: u64, right: Operand, span: Span) -> Result<Operand, AllocError>
+fn binary_after(
+    alloc: Global,
+    op: BinOp,
+    left: Expr,
+    left_height: u64,
+    right: Operand,
+    span: Span,
+) -> Result<Operand, AllocError>
     ensures { IfOk result (λ r. kept_of r ≡ keep_bin op (kept left_height (placed_expr left)) (kept_of right) span) }
 {
     match right {
@@ -101,12 +119,27 @@ fn binary_after(alloc: Global, op: BinOp, left: Expr, left_height: u64, right: O
             let left = Boxed::new(alloc, left)?;
             let right = Boxed::new(alloc, tree)?;
             let below = greater(left_height, height);
-            Ok(node(Expr::Bin { op, left, right, span }, below, span))
+            Ok(node(
+                Expr::Bin {
+                    op,
+                    left,
+                    right,
+                    span,
+                },
+                below,
+                span,
+            ))
         }
     }
 }
 
-pub fn choice(alloc: Global, test: Operand, yes: Operand, no: Operand, span: Span) -> Result<Operand, AllocError>
+pub fn choice(
+    alloc: Global,
+    test: Operand,
+    yes: Operand,
+    no: Operand,
+    span: Span,
+) -> Result<Operand, AllocError>
     ensures { IfOk result (λ r. kept_of r ≡ keep_cond (kept_of test) (kept_of yes) (kept_of no) span) }
 {
     match test {
@@ -115,16 +148,39 @@ pub fn choice(alloc: Global, test: Operand, yes: Operand, no: Operand, span: Spa
     }
 }
 
-fn choice_after(alloc: Global, test: Expr, test_height: u64, yes: Operand, no: Operand, span: Span) -> Result<Operand, AllocError>
+fn choice_after(
+    alloc: Global,
+    test: Expr,
+    test_height: u64,
+    yes: Operand,
+    no: Operand,
+    span: Span,
+) -> Result<Operand, AllocError>
     ensures { IfOk result (λ r. kept_of r ≡ keep_cond (kept test_height (placed_expr test)) (kept_of yes) (kept_of no) span) }
 {
     match yes {
         Operand::Deep(place) => Ok(Operand::Deep(place)),
-        Operand::Tree { tree, height } => choice_last(alloc, test, test_height, tree, height, no, span),
+        Operand::Tree { tree, height } => choice_last(
+            alloc,
+            test,
+            test_height,
+            tree,
+            height,
+            no,
+            span,
+        ),
     }
 }
 
-fn choice_last(alloc: Global, test: Expr, test_height: u64, yes: Expr, yes_height: u64, no: Operand, span: Span) -> Result<Operand, AllocError>
+fn choice_last(
+    alloc: Global,
+    test: Expr,
+    test_height: u64,
+    yes: Expr,
+    yes_height: u64,
+    no: Operand,
+    span: Span,
+) -> Result<Operand, AllocError>
     ensures { IfOk result (λ r. kept_of r ≡ keep_cond (kept test_height (placed_expr test)) (kept yes_height (placed_expr yes)) (kept_of no) span) }
 {
     match no {
@@ -134,7 +190,16 @@ fn choice_last(alloc: Global, test: Expr, test_height: u64, yes: Expr, yes_heigh
             let yes = Boxed::new(alloc, yes)?;
             let no = Boxed::new(alloc, tree)?;
             let below = greater(test_height, greater(yes_height, height));
-            Ok(node(Expr::Cond { test, yes, no, span }, below, span))
+            Ok(node(
+                Expr::Cond {
+                    test,
+                    yes,
+                    no,
+                    span,
+                },
+                below,
+                span,
+            ))
         }
     }
 }
@@ -163,7 +228,10 @@ fn subscript_after(trees: ExprList, height: u64, last: Operand) -> Result<Subscr
 {
     match last {
         Operand::Deep(place) => Ok(Subscripts::Deep(place)),
-        Operand::Tree { tree, height: its_height } => {
+        Operand::Tree {
+            tree,
+            height: its_height,
+        } => {
             let mut trees = trees;
             trees.push(tree)?;
             Ok(Subscripts::Trees {
@@ -187,7 +255,15 @@ pub fn element(name: Name, subscripts: Subscripts, span: Span) -> Operand
                     height: 1,
                 }
             } else {
-                node(Expr::Item { name, subs: trees, span }, height, span)
+                node(
+                    Expr::Item {
+                        name,
+                        subs: trees,
+                        span,
+                    },
+                    height,
+                    span,
+                )
             }
         }
     }

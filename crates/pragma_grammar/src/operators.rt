@@ -1,13 +1,14 @@
-//! The operators of expressions and their rows.
+//! The operators of expressions and their rows, and the tokens that open and close operands.
 
 ghost use Rattle.std.specs.Prelude.{◌≡◌};
 ghost use Rattle.pragma_grammar.specs.Expressions.{row};
-ghost use Rattle.pragma_grammar.specs.Terminals.{unary_terminal, binary_terminal, infix_terminal};
+ghost use Rattle.pragma_grammar.specs.Terminals.{unary_terminal, binary_terminal, infix_terminal, is_square_open, is_square_close, is_colon, begun_type};
 
 use crate::open_phrase::Infix;
 use crate::terminal::Terminal;
 use c_lexer::token::Punct;
-use c_tree::tree::{BinOp, UnOp};
+use c_lexer::words::Keyword;
+use c_tree::tree::{BinOp, Ty, UnOp};
 
 pub fn unary_of(terminal: Terminal) -> Option<UnOp>
     ensures { result ≡ unary_terminal terminal }
@@ -61,14 +62,60 @@ pub fn goes_on(least: u8, row: u8, terminal: Terminal) -> Option<Infix>
 {
     match terminal {
         Terminal::Punct(Punct::Question) => {
-            if least == 0 && 1 <= row { Some(Infix::Choice) } else { None }
+            if least == 0 && 1 <= row {
+                Some(Infix::Choice)
+            } else {
+                None
+            }
         }
         _ => match binary_of(terminal) {
             Some(op) => {
                 let own = row_of(op);
-                if least <= own && own <= row { Some(Infix::Between(op)) } else { None }
+                if least <= own && own <= row {
+                    Some(Infix::Between(op))
+                } else {
+                    None
+                }
             }
             None => None,
         },
+    }
+}
+
+pub fn is_square_open(terminal: Terminal) -> bool
+    ensures { result ≡ is_square_open terminal }
+{
+    match terminal {
+        Terminal::Punct(Punct::SquareOpen) => true,
+        _ => false,
+    }
+}
+
+pub fn is_square_close(terminal: Terminal) -> bool
+    ensures { result ≡ is_square_close terminal }
+{
+    match terminal {
+        Terminal::Punct(Punct::SquareClose) => true,
+        _ => false,
+    }
+}
+
+pub fn is_colon(terminal: Terminal) -> bool
+    ensures { result ≡ is_colon terminal }
+{
+    match terminal {
+        Terminal::Punct(Punct::Colon) => true,
+        _ => false,
+    }
+}
+
+/// The type whose name a word begins; that of `long` is `long long`.
+pub fn begun_type(terminal: Terminal) -> Option<Ty>
+    ensures { result ≡ begun_type terminal }
+{
+    match terminal {
+        Terminal::Keyword(Keyword::Int) => Some(Ty::Int),
+        Terminal::Keyword(Keyword::Long) => Some(Ty::Long),
+        _ => None,
     }
 }

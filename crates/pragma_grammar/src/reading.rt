@@ -7,11 +7,16 @@ ghost use Rattle.pragma_grammar.specs.declared.terminal.Terminal.{Terminal};
 ghost use Rattle.pragma_grammar.specs.Reading.{EndsText};
 ghost use Rattle.pragma_grammar.specs.Machine as machine;
 ghost use Rattle.pragma_grammar.specs.Kept.{Kept, KeptList, keeps, keep_subscript};
-ghost use Rattle.pragma_grammar.specs.Stands.{kept_of, kept_list_of, KeptOpen, phrase, phrases, stands, asks, closes, settle, begin, step, came, turned, Falls, outcome, read_as, Within};
+ghost use Rattle.pragma_grammar.specs.Stands.{kept_of, kept_list_of, KeptOpen, phrase, phrases, stands, asks, closes, settle, begin, step, came, turned, begun, Falls, outcome, read_as, Within};
 
 use crate::open_phrase::{Infix, Move, Open, State, Turn};
-use crate::operand::{Operand, Subscripts, binary, choice, conversion, element, no_subscripts, spanning, subscript, unary};
-use crate::operators::{goes_on, row_of, unary_of};
+use crate::operand::{
+    Operand, Subscripts, binary, choice, conversion, element, no_subscripts, spanning, subscript,
+    unary,
+};
+use crate::operators::{
+    begun_type, goes_on, is_colon, is_square_close, is_square_open, row_of, unary_of,
+};
 use crate::terminal::{Terminal, constant, spelling, terminal_of};
 use c_lexer::token::{Punct, Token};
 use c_lexer::words::Keyword;
@@ -22,7 +27,11 @@ use std::alloc::{AllocError, Global};
 /// How a reading ends: with the whole expression and the index of the token after it, or at the index of a fault.
 #[derive(Drop)]
 pub enum Reading {
-    Whole { operand: Operand, at: Span, next: usize },
+    Whole {
+        operand: Operand,
+        at: Span,
+        next: usize,
+    },
     Fault(usize),
 }
 
@@ -59,7 +68,14 @@ fn open_phrase(stack: &mut Vec<Open>, opened: Open) -> Result<(), AllocError>
 }
 
 /// One turn: the token goes on with the operand, or ends the innermost phrase.
-fn take_turn(alloc: Global, stack: &mut Vec<Open>, operand: Operand, at: Span, row: u8, token: &Token) -> Result<Turn, AllocError>
+fn take_turn(
+    alloc: Global,
+    stack: &mut Vec<Open>,
+    operand: Operand,
+    at: Span,
+    row: u8,
+    token: &Token,
+) -> Result<Turn, AllocError>
     ensures turned { IfOk result (λ t. turned t (phrases stack.new.items) (symbol token.now) ≡ settle row (kept_of operand) at (phrases stack.old.items) (symbol token.now)) }
     ensures falls { IfOk result (λ t. Falls t (length stack.new.items) (length stack.old.items)) }
 {
@@ -82,26 +98,47 @@ fn after_operator(operand: Operand, at: Span, operator: Infix) -> Open
             at,
             op,
         },
-        Infix::Choice => Open::Test {
-            test: operand,
-            at,
-        },
+        Infix::Choice => Open::Test { test: operand, at },
     }
 }
 
 /// The token ends the innermost phrase.
-fn close(alloc: Global, stack: &mut Vec<Open>, operand: Operand, at: Span, token: &Token) -> Result<Turn, AllocError>
+fn close(
+    alloc: Global,
+    stack: &mut Vec<Open>,
+    operand: Operand,
+    at: Span,
+    token: &Token,
+) -> Result<Turn, AllocError>
     ensures turned { IfOk result (λ t. turned t (phrases stack.new.items) (symbol token.now) ≡ closes (phrases stack.old.items) (kept_of operand) at (symbol token.now)) }
     ensures falls { IfOk result (λ t. Falls t (length stack.new.items) (length stack.old.items)) }
 {
     match stack.pop() {
-        None => Ok(Turn::Done(Move::Ended { operand, at })),
+        None => Ok(Turn::Done(end_at(operand, at, token))),
         Some(innermost) => close_phrase(alloc, stack, innermost, operand, at, token),
     }
 }
 
+/// The token after the whole expression; a subscript can only follow a name.
+fn end_at(operand: Operand, at: Span, token: &Token) -> Move
+    ensures { (k : List KeptOpen) → came result k ≡ machine.ends_at Kept KeptList (kept_of operand) at (symbol token.now) }
+{
+    if is_square_open(terminal_of(token)) {
+        Move::Stuck
+    } else {
+        Move::Ended { operand, at }
+    }
+}
+
 /// The token ends a phrase, which was the innermost one.
-fn close_phrase(alloc: Global, stack: &mut Vec<Open>, innermost: Open, operand: Operand, at: Span, token: &Token) -> Result<Turn, AllocError>
+fn close_phrase(
+    alloc: Global,
+    stack: &mut Vec<Open>,
+    innermost: Open,
+    operand: Operand,
+    at: Span,
+    token: &Token,
+) -> Result<Turn, AllocError>
     ensures turned { IfOk result (λ t. turned t (phrases stack.new.items) (symbol token.now) ≡ closes (phrase innermost ∷ phrases stack.old.items) (kept_of operand) at (symbol token.now)) }
     ensures falls { IfOk result (λ t. Falls t (length stack.new.items) (suc (length stack.old.items))) }
 {
@@ -122,7 +159,11 @@ fn close_phrase(alloc: Global, stack: &mut Vec<Open>, innermost: Open, operand: 
                 row: 7,
             })
         }
-        Open::Left { left, at: first, op } => {
+        Open::Left {
+            left,
+            at: first,
+            op,
+        } => {
             let at = spanning(first, at);
             Ok(Turn::Again {
                 operand: binary(alloc, op, left, operand, at)?,
@@ -130,7 +171,11 @@ fn close_phrase(alloc: Global, stack: &mut Vec<Open>, innermost: Open, operand: 
                 row: row_of(op),
             })
         }
-        Open::Other { test, at: first, yes } => {
+        Open::Other {
+            test,
+            at: first,
+            yes,
+        } => {
             let at = spanning(first, at);
             Ok(Turn::Again {
                 operand: choice(alloc, test, yes, operand, at)?,
@@ -139,10 +184,14 @@ fn close_phrase(alloc: Global, stack: &mut Vec<Open>, innermost: Open, operand: 
             })
         }
         Open::Round { at: first } => Ok(Turn::Done(close_round(operand, first, token))),
-        Open::Square { name, at: first, subscripts } => {
-            Ok(Turn::Done(close_square(name, first, subscripts, operand, token)?))
-        }
-        Open::Test { test, at: first } => Ok(Turn::Done(close_test(stack, test, first, operand, token)?)),
+        Open::Square {
+            name,
+            at: first,
+            subscripts,
+        } => { Ok(Turn::Done(close_square(name, first, subscripts, operand, token)?)) }
+        Open::Test { test, at: first } => Ok(Turn::Done(close_test(
+            stack, test, first, operand, token,
+        )?)),
     }
 }
 
@@ -158,38 +207,60 @@ fn close_round(operand: Operand, first: Span, token: &Token) -> Move
     }
 }
 
-fn close_square(name: Name, first: Span, subscripts: Subscripts, operand: Operand, token: &Token) -> Result<Move, AllocError>
+fn close_square(
+    name: Name,
+    first: Span,
+    subscripts: Subscripts,
+    operand: Operand,
+    token: &Token,
+) -> Result<Move, AllocError>
     ensures { IfOk result (λ m. (k : List KeptOpen) → came m k ≡ machine.expect_square Kept KeptList name first (keep_subscript (kept_list_of subscripts) (kept_of operand)) k (symbol token.now)) }
 {
-    match terminal_of(token) {
-        Terminal::Punct(Punct::SquareClose) => Ok(Move::Leads(State::Access {
+    if is_square_close(terminal_of(token)) {
+        Ok(Move::Leads(State::Access {
             name,
             at: first,
             subscripts: subscript(subscripts, operand)?,
             last: token.span,
-        })),
-        _ => Ok(Move::Stuck),
+        }))
+    } else {
+        Ok(Move::Stuck)
     }
 }
 
-fn close_test(stack: &mut Vec<Open>, test: Operand, first: Span, operand: Operand, token: &Token) -> Result<Move, AllocError>
+fn close_test(
+    stack: &mut Vec<Open>,
+    test: Operand,
+    first: Span,
+    operand: Operand,
+    token: &Token,
+) -> Result<Move, AllocError>
     ensures { IfOk result (λ m. came m (phrases stack.new.items) ≡ machine.expect_colon Kept KeptList (kept_of test) first (kept_of operand) (phrases stack.old.items) (symbol token.now)) }
 {
-    match terminal_of(token) {
-        Terminal::Punct(Punct::Colon) => {
-            open_phrase(stack, Open::Other {
+    if is_colon(terminal_of(token)) {
+        open_phrase(
+            stack,
+            Open::Other {
                 test,
                 at: first,
                 yes: operand,
-            })?;
-            Ok(Move::Leads(State::Want))
-        }
-        _ => Ok(Move::Stuck),
+            },
+        )?;
+        Ok(Move::Leads(State::Want))
+    } else {
+        Ok(Move::Stuck)
     }
 }
 
 /// Ends phrases until the token goes on with an operand, is taken, or stands after the whole.
-fn settle(alloc: Global, stack: &mut Vec<Open>, operand: Operand, at: Span, row: u8, token: &Token) -> Result<Move, AllocError>
+fn settle(
+    alloc: Global,
+    stack: &mut Vec<Open>,
+    operand: Operand,
+    at: Span,
+    row: u8,
+    token: &Token,
+) -> Result<Move, AllocError>
     ensures { IfOk result (λ m. came m (phrases stack.new.items) ≡ settle row (kept_of operand) at (phrases stack.old.items) (symbol token.now)) }
 {
     let mut operand = operand;
@@ -198,7 +269,11 @@ fn settle(alloc: Global, stack: &mut Vec<Open>, operand: Operand, at: Span, row:
     loop {
         match take_turn(alloc, stack, operand, at, row, token)? {
             Turn::Done(done) => return Ok(done),
-            Turn::Again { operand: whole, at: its_place, row: its_row } => {
+            Turn::Again {
+                operand: whole,
+                at: its_place,
+                row: its_row,
+            } => {
                 operand = whole;
                 at = its_place;
                 row = its_row;
@@ -222,10 +297,7 @@ fn begin(alloc: Global, stack: &mut Vec<Open>, token: &Token) -> Result<Move, Al
         Terminal::Punct(Punct::RoundOpen) => Ok(Move::Leads(State::Opened { at: token.span })),
         terminal => match unary_of(terminal) {
             Some(op) => {
-                open_phrase(stack, Open::Sign {
-                    at: token.span,
-                    op,
-                })?;
+                open_phrase(stack, Open::Sign { at: token.span, op })?;
                 Ok(Move::Leads(State::Want))
             }
             None => Ok(Move::Stuck),
@@ -253,19 +325,30 @@ fn number(token: &Token) -> State
 }
 
 /// The token after `(`, which begins a type's name or a phrase.
-fn begin_round(alloc: Global, stack: &mut Vec<Open>, first: Span, token: &Token) -> Result<Move, AllocError>
+fn begin_round(
+    alloc: Global,
+    stack: &mut Vec<Open>,
+    first: Span,
+    token: &Token,
+) -> Result<Move, AllocError>
     ensures { IfOk result (λ m. came m (phrases stack.new.items) ≡ machine.begin_round Kept KeptList keeps first (phrases stack.old.items) (symbol token.now)) }
 {
-    match terminal_of(token) {
-        Terminal::Keyword(Keyword::Int) => Ok(Move::Leads(State::Typed {
-            at: first,
-            ty: Ty::Int,
-        })),
-        Terminal::Keyword(Keyword::Long) => Ok(Move::Leads(State::HalfLong { at: first })),
-        _ => {
+    match begun_type(terminal_of(token)) {
+        Some(ty) => Ok(Move::Leads(after_type_word(first, ty))),
+        None => {
             open_phrase(stack, Open::Round { at: first })?;
             begin(alloc, stack, token)
         }
+    }
+}
+
+/// What stands after the first word of a type's name.
+fn after_type_word(first: Span, ty: Ty) -> State
+    ensures { (k : List KeptOpen) → stands result k ≡ begun first ty k }
+{
+    match ty {
+        Ty::Int => State::Typed { at: first, ty },
+        Ty::Long => State::HalfLong { at: first },
     }
 }
 
@@ -306,27 +389,40 @@ fn end_long(stack: &mut Vec<Open>, first: Span, token: &Token) -> Result<Move, A
 }
 
 /// The token after a name or a subscript.
-fn subscripted(alloc: Global, stack: &mut Vec<Open>, name: Name, first: Span, subscripts: Subscripts, last: Span, token: &Token) -> Result<Move, AllocError>
+fn subscripted(
+    alloc: Global,
+    stack: &mut Vec<Open>,
+    name: Name,
+    first: Span,
+    subscripts: Subscripts,
+    last: Span,
+    token: &Token,
+) -> Result<Move, AllocError>
     ensures { IfOk result (λ m. came m (phrases stack.new.items) ≡ machine.subscripted Kept KeptList keeps name first (kept_list_of subscripts) last (phrases stack.old.items) (symbol token.now)) }
 {
-    match terminal_of(token) {
-        Terminal::Punct(Punct::SquareOpen) => {
-            open_phrase(stack, Open::Square {
+    if is_square_open(terminal_of(token)) {
+        open_phrase(
+            stack,
+            Open::Square {
                 name,
                 at: first,
                 subscripts,
-            })?;
-            Ok(Move::Leads(State::Want))
-        }
-        _ => {
-            let at = spanning(first, last);
-            settle(alloc, stack, element(name, subscripts, at), at, 8, token)
-        }
+            },
+        )?;
+        Ok(Move::Leads(State::Want))
+    } else {
+        let at = spanning(first, last);
+        settle(alloc, stack, element(name, subscripts, at), at, 8, token)
     }
 }
 
 /// What a token does.
-fn step(alloc: Global, stack: &mut Vec<Open>, state: State, token: &Token) -> Result<Move, AllocError>
+fn step(
+    alloc: Global,
+    stack: &mut Vec<Open>,
+    state: State,
+    token: &Token,
+) -> Result<Move, AllocError>
     ensures { IfOk result (λ m. came m (phrases stack.new.items) ≡ step (stands state (phrases stack.old.items)) (symbol token.now)) }
 {
     match state {
@@ -335,7 +431,12 @@ fn step(alloc: Global, stack: &mut Vec<Open>, state: State, token: &Token) -> Re
         State::HalfLong { at } => Ok(more_long(at, token)),
         State::Long { at } => end_long(stack, at, token),
         State::Typed { at, ty } => end_type(stack, at, ty, token),
-        State::Access { name, at, subscripts, last } => subscripted(alloc, stack, name, at, subscripts, last, token),
+        State::Access {
+            name,
+            at,
+            subscripts,
+            last,
+        } => subscripted(alloc, stack, name, at, subscripts, last, token),
         State::Have { operand, at } => settle(alloc, stack, operand, at, 8, token),
     }
 }
