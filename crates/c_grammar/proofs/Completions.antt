@@ -154,10 +154,13 @@ pass f g i d = record { program = d.program; tokens = d.tokens; meets = i d.prog
 
 symbol_first : (f : Meaning) (t : Token) (s : Symbol) → symbol t ≡ s → goes_on s ≡ false → (place s).start ≡ 0 → Completion (λ p ts. f p (s ∷ ts)) → Completion f
 symbol_first f t s q n z d =
-    record { program = d.program; tokens = t ∷ d.tokens
-           ; meets = subst (λ x. f d.program (x ∷ symbols d.tokens)) (sym q) d.meets
-           ; ending = subst (λ x. Stops (x ∷ symbols d.tokens)) (sym q) (on_false s (symbols d.tokens) n)
-           ; starts = subst (λ x. start_of (x ∷ symbols d.tokens) ≡ 0) (sym q) z }
+    record {
+      program = d.program;
+      tokens = t ∷ d.tokens;
+      meets = subst (λ x. f d.program (x ∷ symbols d.tokens)) (sym q) d.meets;
+      ending = subst (λ x. Stops (x ∷ symbols d.tokens)) (sym q) (on_false s (symbols d.tokens) n);
+      starts = subst (λ x. start_of (x ∷ symbols d.tokens) ≡ 0) (sym q) z;
+    }
 
 class_first : (f : Meaning) (c : Class) → Completion (λ p ts. f p (fixed c nowhere ∷ ts)) → Completion f
 class_first f c d = symbol_first f (token_of c) (fixed c nowhere) (class_symbol c) (stops_false (class_stops c nowhere [])) (fixed_start c []) d
@@ -189,9 +192,9 @@ the_param = record { ty = tys.Int; name = codes "x"; name_span = nowhere }
 main_first : (f : Meaning) → Completion (λ p ts. f p (keyword kw.Int nowhere ∷ keyword kw.Main nowhere ∷ punct pn.RoundOpen nowhere ∷ punct pn.RoundClose nowhere ∷ punct pn.CurlyOpen nowhere ∷ punct pn.CurlyClose nowhere ∷ ts)) → Completion f
 main_first f d =
     class_first f int_word (class_first (λ p ts. f p (keyword kw.Int nowhere ∷ ts)) main_word (class_first (λ p ts. f p (keyword kw.Int nowhere ∷ keyword kw.Main nowhere ∷ ts)) round_open
-        (class_first (λ p ts. f p (keyword kw.Int nowhere ∷ keyword kw.Main nowhere ∷ punct pn.RoundOpen nowhere ∷ ts)) round_close
-        (class_first (λ p ts. f p (keyword kw.Int nowhere ∷ keyword kw.Main nowhere ∷ punct pn.RoundOpen nowhere ∷ punct pn.RoundClose nowhere ∷ ts)) curly_open
-        (class_first (λ p ts. f p (keyword kw.Int nowhere ∷ keyword kw.Main nowhere ∷ punct pn.RoundOpen nowhere ∷ punct pn.RoundClose nowhere ∷ punct pn.CurlyOpen nowhere ∷ ts)) curly_close d)))))
+    (class_first (λ p ts. f p (keyword kw.Int nowhere ∷ keyword kw.Main nowhere ∷ punct pn.RoundOpen nowhere ∷ ts)) round_close
+    (class_first (λ p ts. f p (keyword kw.Int nowhere ∷ keyword kw.Main nowhere ∷ punct pn.RoundOpen nowhere ∷ punct pn.RoundClose nowhere ∷ ts)) curly_open
+    (class_first (λ p ts. f p (keyword kw.Int nowhere ∷ keyword kw.Main nowhere ∷ punct pn.RoundOpen nowhere ∷ punct pn.RoundClose nowhere ∷ punct pn.CurlyOpen nowhere ∷ ts)) curly_close d)))))
 
 empty_tops : (ts : List Symbol) → Tops (empty_main ∷ []) (keyword kw.Int nowhere ∷ keyword kw.Main nowhere ∷ punct pn.RoundOpen nowhere ∷ punct pn.RoundClose nowhere ∷ punct pn.CurlyOpen nowhere ∷ punct pn.CurlyClose nowhere ∷ ts) ts
 empty_tops ts = pr.the_main pr.absent st.over pr.goes_off
@@ -214,26 +217,26 @@ complete (expr f) = zero_first (Met (expr f)) (pass (Met (f zero_tree nowhere)) 
 complete (stopping g) = pass (Met g) (Met (stopping g)) (λ p ts n z h. stopping_at n h) (complete g)
 complete (directive f) =
     symbol_first (Met (directive f)) (word_token (codes "reverse")) (name (codes "reverse") nowhere) reverse_symbol refl refl
-        (class_first (λ p ts. Meets p (directive f) (name (codes "reverse") nowhere ∷ ts)) the_line_end
-        (pass (Met (f reverse_tree)) (λ p ts. Meets p (directive f) (name (codes "reverse") nowhere ∷ line_end nowhere ∷ ts)) (λ p ts n z h. directive_reads (directive_phrase reverse_kind no_clause) (takes_it h)) (complete (f reverse_tree))))
+    (class_first (λ p ts. Meets p (directive f) (name (codes "reverse") nowhere ∷ ts)) the_line_end
+    (pass (Met (f reverse_tree)) (λ p ts. Meets p (directive f) (name (codes "reverse") nowhere ∷ line_end nowhere ∷ ts)) (λ p ts n z h. directive_reads (directive_phrase reverse_kind no_clause) (takes_it h)) (complete (f reverse_tree))))
 complete (subscripts a f) = pass (Met (f no_exprs a)) (Met (subscripts a f)) (λ p ts n z h. indices_read no_more n h) (complete (f no_exprs a))
 complete (listed f) =
     zero_first (Met (listed f)) (class_first (λ p ts. Meets p (listed f) (number 0 tys.Int true nowhere ∷ ts)) round_close
-        (pass (Met (f (more_exprs zero_tree no_exprs) nowhere)) (λ p ts. Meets p (listed f) (number 0 tys.Int true nowhere ∷ punct pn.RoundClose nowhere ∷ ts)) (λ p ts n z h. listed_reads (last literal) h) (complete (f (more_exprs zero_tree no_exprs) nowhere))))
+    (pass (Met (f (more_exprs zero_tree no_exprs) nowhere)) (λ p ts. Meets p (listed f) (number 0 tys.Int true nowhere ∷ punct pn.RoundClose nowhere ∷ ts)) (λ p ts n z h. listed_reads (last literal) h) (complete (f (more_exprs zero_tree no_exprs) nowhere))))
 complete (operator f g) = class_first (Met (operator f g)) assign (pass (Met (f op.Plain)) (λ p ts. Meets p (operator f g) (punct pn.Assign nowhere ∷ ts)) (λ p ts n z h. assigning refl h) (complete (f op.Plain)))
 complete (simple f) =
     name_first (Met (simple f)) (class_first (λ p ts. Meets p (simple f) (name (codes "x") nowhere ∷ ts)) assign (zero_first (λ p ts. Meets p (simple f) (name (codes "x") nowhere ∷ punct pn.Assign nowhere ∷ ts))
-        (pass (Met (f assigned_x nowhere)) (λ p ts. Meets p (simple f) (name (codes "x") nowhere ∷ punct pn.Assign nowhere ∷ number 0 tys.Int true nowhere ∷ ts)) (λ p ts n z h. simple_reads (st.assignment (st.targets no_more) refl literal) n h) (complete (f assigned_x nowhere)))))
+    (pass (Met (f assigned_x nowhere)) (λ p ts. Meets p (simple f) (name (codes "x") nowhere ∷ punct pn.Assign nowhere ∷ number 0 tys.Int true nowhere ∷ ts)) (λ p ts n z h. simple_reads (st.assignment (st.targets no_more) refl literal) n h) (complete (f assigned_x nowhere)))))
 complete (body f) = class_first (Met (body f)) semicolon (pass (Met (f empty_body nowhere)) (λ p ts. Meets p (body f) (punct pn.Semicolon nowhere ∷ ts)) (λ p ts n z h. body_reads (st.lone st.nothing) h) (complete (f empty_body nowhere)))
 complete (units b f) = class_first (Met (units b f)) curly_close (pass (Met (f no_stmts nowhere)) (λ p ts. Meets p (units b f) (punct pn.CurlyClose nowhere ∷ ts)) (λ p ts n z h. units_read st.over closes h) (complete (f no_stmts nowhere)))
 complete (declarators y b f) =
     name_first (Met (declarators y b f)) (class_first (λ p ts. Meets p (declarators y b f) (name (codes "x") nowhere ∷ ts)) semicolon (class_first (λ p ts. Meets p (declarators y b f) (name (codes "x") nowhere ∷ punct pn.Semicolon nowhere ∷ ts)) curly_close
-        (pass (Met (f (unset_x y) nowhere)) (λ p ts. Meets p (declarators y b f) (name (codes "x") nowhere ∷ punct pn.Semicolon nowhere ∷ punct pn.CurlyClose nowhere ∷ ts)) (λ p ts n z h. declarators_read (st.last_declarator st.unset) st.over closes h) (complete (f (unset_x y) nowhere)))))
+    (pass (Met (f (unset_x y) nowhere)) (λ p ts. Meets p (declarators y b f) (name (codes "x") nowhere ∷ punct pn.Semicolon nowhere ∷ punct pn.CurlyClose nowhere ∷ ts)) (λ p ts n z h. declarators_read (st.last_declarator st.unset) st.over closes h) (complete (f (unset_x y) nowhere)))))
 complete (init f) = class_first (Met (init f)) semicolon (pass (Met (f no_stmt)) (λ p ts. Meets p (init f) (punct pn.Semicolon nowhere ∷ ts)) (λ p ts n z h. init_reads st.no_init h) (complete (f no_stmt)))
 complete (params f) =
     class_first (Met (params f)) int_word (name_first (λ p ts. Meets p (params f) (keyword kw.Int nowhere ∷ ts)) (class_first (λ p ts. Meets p (params f) (keyword kw.Int nowhere ∷ name (codes "x") nowhere ∷ ts)) round_close
-        (pass (Met (f (the_param ∷ []) nowhere)) (λ p ts. Meets p (params f) (keyword kw.Int nowhere ∷ name (codes "x") nowhere ∷ punct pn.RoundClose nowhere ∷ ts)) (λ p ts n z h. params_read (pr.last_param int) h) (complete (f (the_param ∷ []) nowhere)))))
+    (pass (Met (f (the_param ∷ []) nowhere)) (λ p ts. Meets p (params f) (keyword kw.Int nowhere ∷ name (codes "x") nowhere ∷ punct pn.RoundClose nowhere ∷ ts)) (λ p ts n z h. params_read (pr.last_param int) h) (complete (f (the_param ∷ []) nowhere)))))
 complete (globals y f) =
     name_first (Met (globals y f)) (class_first (λ p ts. Meets p (globals y f) (name (codes "x") nowhere ∷ ts)) semicolon (main_first (λ p ts. Meets p (globals y f) (name (codes "x") nowhere ∷ punct pn.Semicolon nowhere ∷ ts))
-        (pass (Met (f (started 0 (global y (codes "x") nowhere no_exprs None) ∷ empty_main ∷ []))) (λ p ts. Meets p (globals y f) (name (codes "x") nowhere ∷ punct pn.Semicolon nowhere ∷ keyword kw.Int nowhere ∷ keyword kw.Main nowhere ∷ punct pn.RoundOpen nowhere ∷ punct pn.RoundClose nowhere ∷ punct pn.CurlyOpen nowhere ∷ punct pn.CurlyClose nowhere ∷ ts)) (λ p ts n z h. globals_read (pr.last_global (pr.plain no_more)) (empty_tops ts) h) (complete (f (started 0 (global y (codes "x") nowhere no_exprs None) ∷ empty_main ∷ []))))))
+    (pass (Met (f (started 0 (global y (codes "x") nowhere no_exprs None) ∷ empty_main ∷ []))) (λ p ts. Meets p (globals y f) (name (codes "x") nowhere ∷ punct pn.Semicolon nowhere ∷ keyword kw.Int nowhere ∷ keyword kw.Main nowhere ∷ punct pn.RoundOpen nowhere ∷ punct pn.RoundClose nowhere ∷ punct pn.CurlyOpen nowhere ∷ punct pn.CurlyClose nowhere ∷ ts)) (λ p ts n z h. globals_read (pr.last_global (pr.plain no_more)) (empty_tops ts) h) (complete (f (started 0 (global y (codes "x") nowhere no_exprs None) ∷ empty_main ∷ []))))))
 complete (tops f) = main_first (Met (tops f)) (pass (Met (f (empty_main ∷ []))) (λ p ts. Meets p (tops f) (keyword kw.Int nowhere ∷ keyword kw.Main nowhere ∷ punct pn.RoundOpen nowhere ∷ punct pn.RoundClose nowhere ∷ punct pn.CurlyOpen nowhere ∷ punct pn.CurlyClose nowhere ∷ ts)) (λ p ts n z h. tops_read (empty_tops ts) h) (complete (f (empty_main ∷ []))))

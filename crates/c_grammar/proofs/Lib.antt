@@ -13,3 +13,5 @@ pub mod OneProgram
 pub mod OneAnswer
 pub mod WellFormed
 pub mod Shallow
+pub mod DirectivePieces
+pub mod ReachedDirectives

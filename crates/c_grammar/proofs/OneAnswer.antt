@@ -65,7 +65,7 @@ no_longer : (tokens : List Token) (k l : ParseKind) (m n : ℕ) (b : Blame token
 no_longer tokens k l m n b c x =
     let begun = c.begins in
     b.none begun.program (x.between ++ begun.more)
-        (subst (Spells begun.program) (append_assoc b.before (b.token ∷ x.between) begun.more) (subst (λ z. Spells begun.program (z ++ begun.more)) x.parts begun.spells))
+    (subst (Spells begun.program) (append_assoc b.before (b.token ∷ x.between) begun.more) (subst (λ z. Spells begun.program (z ++ begun.more)) x.parts begun.spells))
 
 pub one_blame : (tokens : List Token) (k l : ParseKind) (m n : ℕ) → Blame tokens k m → Blame tokens l n → (k ≡ l) × (m ≡ n)
 one_blame tokens k l m n b c = go (cut b.before c.before b.token c.token b.rest c.rest (sym b.parts ∙ c.parts))

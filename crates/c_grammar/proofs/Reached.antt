@@ -46,10 +46,12 @@ reach_start ts = record { before = []; parts = refl; from = λ p vs h. h; to = �
 -- a token that leads on
 pub reach_step : (ts : List Token) (x y : Goal) (t : Token) (rest : List Token) → Reached ts x (t ∷ rest) → gl.step x (symbol t) ≡ leads y → Reached ts y rest
 reach_step ts x y t rest r q =
-    record { before = r.before ++ t ∷ []
-           ; parts = r.parts ∙ sym (append_assoc r.before (t ∷ []) rest)
-           ; from = λ p vs h. subst (Meets p gl.program_goal) (sym (seam r.before (t ∷ []) vs)) (r.from p (symbol t ∷ vs) (step_from p x (symbol t) vs (subst (λ m. Moves p m (symbol t) vs) (sym q) h)))
-           ; to = λ p u more e vs h. subst (λ m. Moves p m (symbol t) (symbol u ∷ vs)) q (step_to p x (symbol t) (symbol u ∷ vs) (r.to p t rest refl (symbol u ∷ vs) (subst (Meets p gl.program_goal) (seam r.before (t ∷ []) (symbol u ∷ vs)) h))) }
+    record {
+      before = r.before ++ t ∷ [];
+      parts = r.parts ∙ sym (append_assoc r.before (t ∷ []) rest);
+      from = λ p vs h. subst (Meets p gl.program_goal) (sym (seam r.before (t ∷ []) vs)) (r.from p (symbol t ∷ vs) (step_from p x (symbol t) vs (subst (λ m. Moves p m (symbol t) vs) (sym q) h)));
+      to = λ p u more e vs h. subst (λ m. Moves p m (symbol t) (symbol u ∷ vs)) q (step_to p x (symbol t) (symbol u ∷ vs) (r.to p t rest refl (symbol u ∷ vs) (subst (Meets p gl.program_goal) (seam r.before (t ∷ []) (symbol u ∷ vs)) h)));
+    }
 
 -- ---- how it ends
 
@@ -66,9 +68,16 @@ program_spelled items xs ys h = record { program = tops_of items; more = ys; spe
 pub reach_stuck : (ts : List Token) (x : Goal) (t : Token) (rest : List Token) → Reached ts x (t ∷ rest) → gl.step x (symbol t) ≡ stuck → Blame ts (blamed_as t rest) t.span.start
 reach_stuck ts x t rest r q =
     let c = complete x in
-    record { before = r.before; token = t; rest = rest; parts = r.parts; at_place = refl; of_kind = refl
-           ; begins = program_spelled c.program r.before c.tokens (r.from c.program (symbols c.tokens) c.meets)
-           ; none = λ program more s. subst (λ m. Moves s.items m (symbol t) (symbols more)) q (step_to s.items x (symbol t) (symbols more) (r.to s.items t rest refl (symbols more) (unspelled program r.before t more s))) }
+    record {
+      before = r.before;
+      token = t;
+      rest = rest;
+      parts = r.parts;
+      at_place = refl;
+      of_kind = refl;
+      begins = program_spelled c.program r.before c.tokens (r.from c.program (symbols c.tokens) c.meets);
+      none = λ program more s. subst (λ m. Moves s.items m (symbol t) (symbols more)) q (step_to s.items x (symbol t) (symbols more) (r.to s.items t rest refl (symbols more) (unspelled program r.before t more s)));
+    }
 
 -- the token is the last one
 last_read : {p q : List Started} {ts : List Symbol} → AllRead p q ts → p ≡ q
@@ -105,7 +114,6 @@ module _ (T : Type 0) (Spelled : T → List Symbol → List Symbol → Type 0) (
     (one : (e f : T) (ts us vs : List Symbol) → Spelled e ts us → Ends us → Spelled f ts vs → Ends vs → (e ≡ f) × (us ≡ vs))
     (any : (e : T) (xs ys : List Token) → Spelled e (symbols (xs ++ ys)) (symbols ys) → (vs : List Symbol) → Spelled e (symbols xs ++ vs) vs)
     (ends_any : (t : Symbol) (ts us : List Symbol) → Ends (t ∷ ts) → Ends (t ∷ us)) where
-
   pub record Reads (after : T → Goal) (p : List Started) (ts : List Symbol) : Type 0 where
     pub tree : T
     pub left : List Symbol
@@ -122,15 +130,17 @@ module _ (T : Type 0) (Spelled : T → List Symbol → List Symbol → Type 0) (
       → Reached ts x (t ∷ rest) → Letter x (symbol t) after → rest ≡ seg ++ u ∷ more → IsWhole T Spelled Ends (symbols (t ∷ rest)) e (symbols (u ∷ more)) → Reached ts (after e) (u ∷ more)
   reach_letter ts x after t rest seg u more e r x' q i =
       let all : (vs : List Symbol) → Spelled e (symbols (t ∷ seg) ++ vs) vs = any e (t ∷ seg) (u ∷ more) (subst (λ y. Spelled e (symbols (t ∷ y)) (symbols (u ∷ more))) q i.phrase) in
-      record { before = r.before ++ t ∷ seg
-             ; parts = r.parts ∙ ap (λ y. r.before ++ t ∷ y) q ∙ sym (append_assoc r.before (t ∷ seg) (u ∷ more))
-             ; from = λ p vs h. subst (Meets p gl.program_goal) (sym (seam r.before (t ∷ seg) vs)) (r.from p (symbols (t ∷ seg) ++ vs) (x'.from p (symbols seg ++ vs) vs e (all vs) h))
-             ; to = λ p v others o vs h.
-                  let same : u ≡ v = (let z : u ∷ more ≡ v ∷ others = o in cc) in
-                  let g = subst (λ m. Meets p gl.program_goal (symbols r.before ++ (symbols (t ∷ seg) ++ symbol m ∷ vs))) (sym same) (subst (Meets p gl.program_goal) (seam r.before (t ∷ seg) (symbol v ∷ vs)) h) in
-                  let l = x'.to p (symbols seg ++ symbol u ∷ vs) (r.to p t rest refl (symbols seg ++ symbol u ∷ vs) g) in
-                  let o = one e l.tree (symbols (t ∷ seg) ++ symbol u ∷ vs) (symbol u ∷ vs) l.left (all (symbol u ∷ vs)) (ends_any (symbol u) (symbols more) vs i.ends) l.phrase l.ends in
-                  subst (λ m. Meets p (after e) (symbol m ∷ vs)) same (subst (λ z. Meets p (after z) (symbol u ∷ vs)) (sym o.0) (subst (λ z. Meets p (after l.tree) z) (sym o.1) l.meets)) }
+      record {
+        before = r.before ++ t ∷ seg;
+        parts = r.parts ∙ ap (λ y. r.before ++ t ∷ y) q ∙ sym (append_assoc r.before (t ∷ seg) (u ∷ more));
+        from = λ p vs h. subst (Meets p gl.program_goal) (sym (seam r.before (t ∷ seg) vs)) (r.from p (symbols (t ∷ seg) ++ vs) (x'.from p (symbols seg ++ vs) vs e (all vs) h));
+        to = λ p v others o vs h.
+            let same : u ≡ v = (let z : u ∷ more ≡ v ∷ others = o in cc) in
+            let g = subst (λ m. Meets p gl.program_goal (symbols r.before ++ (symbols (t ∷ seg) ++ symbol m ∷ vs))) (sym same) (subst (Meets p gl.program_goal) (seam r.before (t ∷ seg) (symbol v ∷ vs)) h) in
+            let l = x'.to p (symbols seg ++ symbol u ∷ vs) (r.to p t rest refl (symbols seg ++ symbol u ∷ vs) g) in
+            let o = one e l.tree (symbols (t ∷ seg) ++ symbol u ∷ vs) (symbol u ∷ vs) l.left (all (symbol u ∷ vs)) (ends_any (symbol u) (symbols more) vs i.ends) l.phrase l.ends in
+            subst (λ m. Meets p (after e) (symbol m ∷ vs)) same (subst (λ z. Meets p (after z) (symbol u ∷ vs)) (sym o.0) (subst (λ z. Meets p (after l.tree) z) (sym o.1) l.meets));
+      }
 
   -- what was read before the token of a fault begins a program
   fault_begins : (ts : List Token) (x : Goal) (after : T → Goal) (t : Token) (rest : List Token) (r : Reached ts x (t ∷ rest)) → Letter x (symbol t) after → (e : T) (before : List Token) (blamed : Token) (others more : List Token) → t ∷ rest ≡ before ++ blamed ∷ others → ((us : List Symbol) → Spelled e (symbols (before ++ more) ++ us) us) → Begins (r.before ++ before)
@@ -149,12 +159,19 @@ module _ (T : Type 0) (Spelled : T → List Symbol → List Symbol → Type 0) (
       → Reached ts x (t ∷ rest) → Letter x (symbol t) after → IsFault T Spelled Ends (t ∷ rest) kind place → Blame ts kind place
   reach_fault ts x after t rest kind place r x' f =
       let b = begin_at t rest f.before f.token f.rest f.parts in
-      record { before = r.before ++ f.before; token = f.token; rest = f.rest; parts = r.parts ∙ ap (λ y. r.before ++ y) f.parts ∙ sym (append_assoc r.before f.before (f.token ∷ f.rest)); at_place = f.at_place; of_kind = f.of_kind
-             ; begins = fault_begins ts x after t rest r x' f.tree f.before f.token f.rest f.more f.parts f.begins
-             ; none = λ program more s.
-                  let g = subst (Meets s.items gl.program_goal) (seam r.before f.before (symbol f.token ∷ symbols more)) (unspelled program (r.before ++ f.before) f.token more s) in
-                  let l = x'.to s.items (b.follow (symbols more)) (r.to s.items t rest refl (b.follow (symbols more)) (subst (λ z. Meets s.items gl.program_goal (symbols r.before ++ z)) (b.is (symbols more)) g)) in
-                  f.none l.tree (symbols more) l.left (subst (λ z. Spelled l.tree z l.left) (sym (b.is (symbols more))) l.phrase) l.ends }
+      record {
+        before = r.before ++ f.before;
+        token = f.token;
+        rest = f.rest;
+        parts = r.parts ∙ ap (λ y. r.before ++ y) f.parts ∙ sym (append_assoc r.before f.before (f.token ∷ f.rest));
+        at_place = f.at_place;
+        of_kind = f.of_kind;
+        begins = fault_begins ts x after t rest r x' f.tree f.before f.token f.rest f.more f.parts f.begins;
+        none = λ program more s.
+            let g = subst (Meets s.items gl.program_goal) (seam r.before f.before (symbol f.token ∷ symbols more)) (unspelled program (r.before ++ f.before) f.token more s) in
+            let l = x'.to s.items (b.follow (symbols more)) (r.to s.items t rest refl (b.follow (symbols more)) (subst (λ z. Meets s.items gl.program_goal (symbols r.before ++ z)) (b.is (symbols more)) g)) in
+            f.none l.tree (symbols more) l.left (subst (λ z. Spelled l.tree z l.left) (sym (b.is (symbols more))) l.phrase) l.ends;
+      }
 
 -- ---- an expression
 

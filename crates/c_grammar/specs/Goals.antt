@@ -208,9 +208,9 @@ declared t b f ss y = may comma (λ z. declarators t b (λ rs. f (ss y.end rs)))
 abbrev pub declarator : Ty → ℕ → Name → Span → ((ℕ → Stmts → Stmts) → Span → Goal) → Goal
 declarator t from x a f =
     may assign (λ b.
-        may input_word (λ c. takes round_open (λ d. takes round_close (λ z. f (λ to rest. more_stmts (decl t x a None (record { start = from; end = a.end })) (more_stmts (input (target x no_exprs a) c.start (record { start = a.start; end = to })) rest)) z)))
-            (expr (λ e w. f (λ to rest. more_stmts (decl t x a (Some e) (record { start = from; end = to })) rest) w)))
-        (f (λ to rest. more_stmts (decl t x a None (record { start = from; end = to })) rest) a)
+    may input_word (λ c. takes round_open (λ d. takes round_close (λ z. f (λ to rest. more_stmts (decl t x a None (record { start = from; end = a.end })) (more_stmts (input (target x no_exprs a) c.start (record { start = a.start; end = to })) rest)) z)))
+    (expr (λ e w. f (λ to rest. more_stmts (decl t x a (Some e) (record { start = from; end = to })) rest) w)))
+    (f (λ to rest. more_stmts (decl t x a None (record { start = from; end = to })) rest) a)
 
 abbrev pub declaration : Ty → ℕ → Bool → (Stmts → Span → Goal) → Goal
 declaration t from b f = names (λ x a. declarator t from x a (declared t b f))
