@@ -1,2 +1,17 @@
+pub mod Classes
+pub mod Meaning
+pub mod Parts
+pub mod StatementGoals
+pub mod ItemGoals
+pub mod Steps
+pub mod Completions
+pub mod Letters
+pub mod Reached
+pub mod Lines
+pub mod OneDirective
+pub mod OneProgram
+pub mod OneAnswer
 pub mod WellFormed
 pub mod Shallow
+pub mod DirectivePieces
+pub mod ReachedDirectives
