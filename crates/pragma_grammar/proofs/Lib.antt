@@ -24,7 +24,5 @@ pub mod Stopping
 pub mod Wholes
 pub mod ReadExpr
 pub mod LastToken
-pub mod WellFormed
-pub mod Lexed
 pub mod OneTree
 pub mod Turns
