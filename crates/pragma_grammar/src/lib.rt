@@ -12,4 +12,6 @@ mod operators;
 pub mod phrase;
 mod reading;
 pub mod terminal;
+#[cfg(test)]
+mod tests;
 pub mod words;

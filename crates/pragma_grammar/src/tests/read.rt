@@ -1,0 +1,29 @@
+//! A text's tokens, and what is read at one of them.
+
+use crate::expression::{ends_text, read_expr};
+use crate::phrase::{ParseFault, Phrase};
+use c_lexer::lexer::lex;
+use c_lexer::token::{LexFault, Token};
+use c_tree::tree::Expr;
+use std::alloc::{AllocError, Global};
+use std::process::Abort;
+use std::test::Fail;
+
+pub fn tokens_of(alloc: Global, text: &[u8]) -> Result<Vec<Token>, Fail> {
+    match lex(alloc, text) {
+        Ok(tokens) => Ok(tokens),
+        Err(LexFault::At(_, _)) => Ok(Vec::new(alloc)),
+        Err(LexFault::Memory) => Err(AllocError)?,
+    }
+}
+
+pub fn read_at(
+    rt: &impl Abort,
+    alloc: Global,
+    tokens: &[Token],
+    at: usize,
+) -> Result<Phrase<Expr>, ParseFault> {
+    assert!(rt; at < tokens.len());
+    assert!(rt; ends_text(tokens));
+    read_expr(alloc, tokens, at)
+}
