@@ -1,6 +1,6 @@
 -- One turn of the reader of directives: what it has read still begins a directive, or it answers.
-use Rattle.std.proofs.Common.{◌≡◌, ◌⊎◌, ℕ, ◌+◌, ◌<◌, ◌≤◌, Bool, true, false, List, [], ◌∷◌, length, drop, Option, Some, None, refl, sym, ap, ◌∙◌, subst, arith, inl, inr}
-use Rattle.std.specs.Prelude.{slice_get, Ok, Err}
+use Rattle.std.proofs.Common.{◌≡◌, ◌⊎◌, ℕ, zero, suc, ◌+◌, ◌<◌, ◌≤◌, Bool, true, false, List, [], ◌∷◌, length, drop, Option, Some, None, refl, sym, ap, ◌∙◌, subst, arith, inl, inr}
+use Rattle.std.specs.Prelude.{slice_get, get_or, Ok, Err}
 use Rattle.c_tree.specs.Placed.{Directive}
 use Rattle.c_tree.specs.declared.tree.Kind.{Kind}
 use Rattle.c_tree.specs.declared.tree.Span.{Span}
@@ -14,14 +14,23 @@ use Rattle.pragma_grammar.specs.declared.phrase.ParseFault.TheVariants.{At, Memo
 use Rattle.pragma_grammar.specs.declared.directive_kept.Kept as code
 use Rattle.pragma_grammar.specs.declared.directive_kept.Kept.TheVariants as c
 use Rattle.pragma_grammar.specs.declared.directive_state.Held.{Held}
+use Rattle.pragma_grammar.specs.declared.directive_state.Mark.{Mark}
+use Rattle.pragma_grammar.specs.declared.directive_state.State.{State}
+use Rattle.pragma_grammar.specs.declared.directive_state.Move.{Move}
+use Rattle.pragma_grammar.specs.declared.directive_state.Move.TheVariants as v
+use Rattle.pragma_grammar.specs.declared.directive_state.Asked.{Asked}
+use Rattle.pragma_grammar.specs.declared.directive_state.Part.{Part}
+use Rattle.pragma_grammar.specs.declared.directive.Turn.{Turn}
+use Rattle.pragma_grammar.specs.declared.directive.Turn.TheVariants.{Letter, Token as Itself}
+use Rattle.c_tree.specs.Bare.{Name}
 use Rattle.pragma_grammar.specs.Symbols.{Symbol, symbol, name}
 use Rattle.pragma_grammar.specs.Words.{kind_of}
 use Rattle.pragma_grammar.specs.Reading.{EndsText, IsExprRead, IsDirectiveRead, blamed_as}
 use Rattle.pragma_grammar.specs.DirectiveMachine as machine
 use Rattle.pragma_grammar.specs.DirectiveMachine.{start, clauses, comma, opening, partial, apply_word, wanting, having, indexed, applying, first_name, item, item_read, stuck, leads, ended}
 use Rattle.pragma_grammar.specs.DirectiveKept.{Kept, kept, deep, keeps}
-use Rattle.pragma_grammar.specs.DirectiveStands.{KeptPart, KeptOpen, KeptState, KeptMove, held_of, directive_of, seen, step}
-use Rattle.pragma_grammar.specs.DirectiveTurns.{kept_expr, next_of, IsLetterRead, phrase_of}
+use Rattle.pragma_grammar.specs.DirectiveStands.{KeptPart, KeptOpen, KeptState, KeptMove, part_of, asked_of, held_of, directive_of, stands, came, mark_of, word_of, marked, seen, step}
+use Rattle.pragma_grammar.specs.DirectiveTurns.{TakesTurn, kept_expr, next_of, IsLetterRead, phrase_of}
 use Rattle.pragma_grammar.proofs.DirectiveSeen.{letter_seen}
 use Rattle.pragma_grammar.proofs.DirectiveRuns.{Running, run_start, run_step, run_stuck, run_tree, run_deep}
 use Rattle.pragma_grammar.proofs.DirectiveExprs.{run_tree_letter, run_deep_letter, run_fault}
@@ -32,6 +41,12 @@ Come tokens at s next = Running tokens at s next × ((at < next) ⊎ (s ≡ star
 
 pub come_first : (tokens : List Token) (at : ℕ) → at < length tokens → Come tokens at start at
 come_first tokens at l = (run_start tokens at l, inr refl)
+
+-- the token at an index within
+pub got_at : (xs : List Token) (n : ℕ) (t : Token) → n < length xs → t ≡ get_or xs n t → slice_get xs n ≡ Some t
+got_at [] n t l q = absurd (omega arith)
+got_at (x ∷ xs) zero t l q = ap (λ y. Some y) (sym q)
+got_at (x ∷ xs) (suc n) t l q = got_at xs n t (let z : suc n < suc (length xs) = l in omega arith) q
 
 expects_seen : (s : KeptState) (t : Token) → machine.expects keeps s (symbol t) ≡ machine.expects keeps s (seen t)
 expects_seen (wanting asked a p k) t = letter_seen asked t
@@ -112,3 +127,40 @@ pub turn_fault : (tokens : List Token) (at next : ℕ) (s : KeptState) (asked : 
 turn_fault tokens at next s asked a part k t (At kind place) come g w x i =
     run_fault tokens at next asked a part k t kind place (subst (λ z. Running tokens at z next) w come.0) g (letter_seen asked t ∙ x) i
 turn_fault tokens at next s asked a part k t Memory come g w x i = tt
+
+-- ---- the turn that was taken
+
+abbrev Took : Turn → State → Mark → Type 0
+Took r state m = (x : Name) (place : Span) (k : List KeptOpen) → TakesTurn r (stands state k) (marked m x place) k
+
+took_seen : (state : State) (k : List KeptOpen) (t : Token) (m : Mark) (r r' : Turn) → m ≡ mark_of (symbol t) → Took r state m → r ≡ r' → TakesTurn r' (stands state k) (seen t) k
+took_seen state k t m r r' e h q = subst (λ y. TakesTurn y (stands state k) (seen t) k) q (subst (λ z. TakesTurn r (stands state k) (marked z (word_of t) t.span) k) e (h (word_of t) t.span k))
+
+moved : (state here : State) (k k' : List KeptOpen) (t : Token) (m : Mark) (x : Name) (a b : Move) → stands state k ≡ stands here k → m ≡ mark_of (symbol t) → x ≡ word_of t → came a k' ≡ step (stands here k) (marked m x t.span) → a ≡ b → came b k' ≡ step (stands state k) (seen t)
+moved state here k k' t m x a b w e f h q =
+    sym (ap (λ y. came y k') q) ∙ h ∙ ap (λ z. step (stands here k) (marked z x t.span)) e ∙ ap (λ z. step (stands here k) (marked (mark_of (symbol t)) z t.span)) f ∙ ap (λ y. step y (seen t)) (sym w)
+
+pub leads_answer : (tokens : List Token) (at next : ℕ) (state here to : State) (k k' : List KeptOpen) (t : Token) (m n : Mark) (x : Name) (r : Turn) (a : Move) → EndsText tokens → Come tokens at (stands state k) next → slice_get tokens next ≡ Some t → m ≡ mark_of (symbol t) → Took r state m → r ≡ Itself here → n ≡ mark_of (symbol t) → x ≡ word_of t → came a k' ≡ step (stands here k) (marked n x t.span) → a ≡ v.Leads to → Come tokens at (stands to k') (next + 1)
+leads_answer tokens at next state here to k k' t m n x r a z c g e h q e' f i j =
+    let w = took_seen state k t m r (Itself here) e h q in
+    turn_leads tokens at next (stands state k) (stands to k') t z c g w.1 (moved state here k k' t n x a (v.Leads to) w.0 e' f i j)
+
+pub stuck_answer : (tokens : List Token) (at next : ℕ) (state here : State) (k k' : List KeptOpen) (t : Token) (m n : Mark) (x : Name) (r : Turn) (a : Move) (fault : ParseFault) → Come tokens at (stands state k) next → slice_get tokens next ≡ Some t → m ≡ mark_of (symbol t) → Took r state m → r ≡ Itself here → n ≡ mark_of (symbol t) → x ≡ word_of t → came a k' ≡ step (stands here k) (marked n x t.span) → a ≡ v.Stuck → ((t : Token) → slice_get tokens next ≡ Some t → fault ≡ At (blamed_as t (drop (next + 1) tokens)) t.span.start) → IsDirectiveRead tokens at (Err fault)
+stuck_answer tokens at next state here k k' t m n x r a fault c g e h q e' f i j b =
+    let w = took_seen state k t m r (Itself here) e h q in
+    turn_stuck tokens at next (stands state k) t fault c g w.1 (moved state here k k' t n x a v.Stuck w.0 e' f i j) (b t g)
+
+pub ended_answer : (tokens : List Token) (at next : ℕ) (state here : State) (k k' : List KeptOpen) (t : Token) (m n : Mark) (x : Name) (r : Turn) (a : Move) (d : code.Kept code_directive.Directive) (p : Phrase code_directive.Directive) → Come tokens at (stands state k) next → slice_get tokens next ≡ Some t → m ≡ mark_of (symbol t) → Took r state m → r ≡ Itself here → n ≡ mark_of (symbol t) → x ≡ word_of t → came a k' ≡ step (stands here k) (marked n x t.span) → a ≡ v.Ended d → p ≡ phrase_of d next → IsDirectiveRead tokens at (Ok p)
+ended_answer tokens at next state here k k' t m n x r a d p c g e h q e' f i j b =
+    let w = took_seen state k t m r (Itself here) e h q in
+    turn_ended tokens at next (stands state k) t d p c g w.1 (moved state here k k' t n x a (v.Ended d) w.0 e' f i j) b
+
+pub letter_answer : (tokens : List Token) (at next : ℕ) (state : State) (asked : Asked) (a : Span) (part : Part) (k : List KeptOpen) (t : Token) (m : Mark) (r : Turn) (l : Held × ℕ) → Come tokens at (stands state k) next → slice_get tokens next ≡ Some t → m ≡ mark_of (symbol t) → Took r state m → r ≡ Letter asked a part → IsLetterRead tokens next (asked_of asked) (Ok l) → Come tokens at (having (held_of l.0) a (part_of part) k) l.1
+letter_answer tokens at next state asked a part k t m r l c g e h q i =
+    let w = took_seen state k t m r (Letter asked a part) e h q in
+    turn_letter tokens at next (stands state k) (asked_of asked) a (part_of part) k t l c g w.0 w.1 i
+
+pub fault_answer : (tokens : List Token) (at next : ℕ) (state : State) (asked : Asked) (a : Span) (part : Part) (k : List KeptOpen) (t : Token) (m : Mark) (r : Turn) (fault : ParseFault) → Come tokens at (stands state k) next → slice_get tokens next ≡ Some t → m ≡ mark_of (symbol t) → Took r state m → r ≡ Letter asked a part → IsLetterRead tokens next (asked_of asked) (Err fault) → IsDirectiveRead tokens at (Err fault)
+fault_answer tokens at next state asked a part k t m r fault c g e h q i =
+    let w = took_seen state k t m r (Letter asked a part) e h q in
+    turn_fault tokens at next (stands state k) (asked_of asked) a (part_of part) k t fault c g w.0 w.1 i
