@@ -182,10 +182,10 @@ expects_same (item_read o k) t = refl
 tree_step : (tokens : List Token) (at next : ℕ) (s : KeptState) (t : Token) (r : Running tokens at s next) → keep_move (tree.step r.state (symbol t)) ≡ step s (seen t)
 tree_step tokens at next s t r = step_kept r.state (symbol t) ∙ ap (λ x. step x (symbol t)) r.is ∙ step_seen s t
 
-tree_expects : (tokens : List Token) (at next : ℕ) (s : KeptState) (t : Token) (r : Running tokens at s next) (b : Bool) → machine.expects keeps s (symbol t) ≡ b → tree.expects r.state (symbol t) ≡ b
+pub tree_expects : (tokens : List Token) (at next : ℕ) (s : KeptState) (t : Token) (r : Running tokens at s next) (b : Bool) → machine.expects keeps s (symbol t) ≡ b → tree.expects r.state (symbol t) ≡ b
 tree_expects tokens at next s t r b q = sym (expects_same r.state (symbol t)) ∙ ap (λ x. machine.expects keeps x (symbol t)) r.is ∙ q
 
-reaches_at : (tokens : List Token) (at next : ℕ) (s : KeptState) (t : Token) (r : Running tokens at s next) → slice_get tokens next ≡ Some t → Reaches (drop at tokens) r.state (t ∷ drop (next + 1) tokens)
+pub reaches_at : (tokens : List Token) (at next : ℕ) (s : KeptState) (t : Token) (r : Running tokens at s next) → slice_get tokens next ≡ Some t → Reaches (drop at tokens) r.state (t ∷ drop (next + 1) tokens)
 reaches_at tokens at next s t r g = subst (Reaches (drop at tokens) r.state) (split_at tokens next t g) r.reaches
 
 -- a token that leads on isn't the last one

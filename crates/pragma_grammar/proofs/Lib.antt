@@ -11,6 +11,7 @@ pub mod DirectiveEnds
 pub mod DirectiveLetters
 pub mod DirectiveReached
 pub mod DirectivePushes
+pub mod DirectiveNested
 pub mod DirectiveKeeping
 pub mod DirectiveMaps
 pub mod DirectiveSeen
@@ -26,3 +27,5 @@ pub mod ReadExpr
 pub mod LastToken
 pub mod OneTree
 pub mod Turns
+pub mod DirectiveExprs
+pub mod DirectiveTurns

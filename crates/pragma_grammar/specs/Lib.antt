@@ -12,5 +12,6 @@ pub mod DirectiveMachine
 pub mod DirectiveTrees
 pub mod DirectiveKept
 pub mod DirectiveStands
+pub mod DirectiveTurns
 pub mod Kept
 pub mod Stands

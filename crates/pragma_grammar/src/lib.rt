@@ -2,7 +2,9 @@
 #![tactic(auto)]
 
 mod blame;
+pub mod directive;
 mod directive_kept;
+mod directive_reading;
 mod directive_state;
 pub mod expression;
 pub mod laws;
