@@ -38,7 +38,7 @@ binary_of (punct AndAnd s) = Some b.And
 binary_of (punct BarBar s) = Some b.Or
 binary_of t = None
 
--- The rows of operators, from the loosest: row 0 is `? :`, row 7 the unary operators and casts, whatever is in
+-- The rows of operators, from the loosest: 0 is that of `? :`, 7 that of the unary operators and casts; whatever is in
 -- parentheses or has no operator stands in each row.
 abbrev pub row : BinOp → ℕ
 row b.Or = 1
