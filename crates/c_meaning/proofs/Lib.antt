@@ -1,10 +1,13 @@
 pub mod Assignments
 pub mod Calls
 pub mod Growth
+pub mod ChoiceParts
+pub mod EachKind
 pub mod LineText
 pub mod Lists
 pub mod Nodes
 pub mod Places
+pub mod RunnableParts
 pub mod Running
 pub mod Scopes
 pub mod States

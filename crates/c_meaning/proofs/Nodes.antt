@@ -2,12 +2,12 @@
 use Rattle.std.proofs.Common.{◌≡◌, ◌∙◌, sym, ap, ℕ, Bool, List, Option, Some, None}
 use Rattle.std.specs.Option.{option_map}
 use Rattle.c_tree.specs.Bare as b
-use Rattle.c_tree.specs.BareOf.{expr_layer, stmt_layer, head_layer, bare_expr, bare_exprs, bare_target, bare_stmt, bare_stmts, bare_head, bare_directive}
+use Rattle.c_tree.specs.BareOf.{expr_layer, stmt_layer, head_layer, bare_expr, bare_exprs, bare_target, bare_stmt, bare_stmts, bare_head, bare_directive, maybe_stmt}
 use Rattle.c_tree.specs.declared.tree.Directive.{Directive}
 use Rattle.c_tree.specs.declared.tree.Expr.{Expr, fold-roll-Expr}
 use Rattle.c_tree.specs.declared.tree.Expr.TheVariants as ve
 use Rattle.c_tree.specs.declared.tree.Expr.TheOpen as se
-use Rattle.c_tree.specs.declared.tree.ForHead.{ForHead}
+use Rattle.c_tree.specs.declared.tree.ForHead.{ForHead, out-ForHead}
 use Rattle.c_tree.specs.declared.tree.SetOp.{SetOp}
 use Rattle.c_tree.specs.declared.tree.Span.{Span}
 use Rattle.c_tree.specs.declared.tree.Stmt.{Stmt, fold-roll-Stmt}
@@ -16,6 +16,8 @@ use Rattle.c_tree.specs.declared.tree.Stmt.TheOpen as s
 use Rattle.c_tree.specs.declared.tree.Target.{Target}
 use Rattle.c_tree.specs.declared.tree.Ty.{Ty}
 use Rattle.c_tree.specs.Bare.{Name}
+use Rattle.c_tree.proofs.Heads.{bare_head_out}
+use Rattle.c_meaning.specs.Choices.{if_of}
 
 module _ (stmt : Stmt) where
   pub bare_decl : (ty : Ty) (x : Name) (at : Span) (init : Option Expr) (sp : Span) → stmt ≡ v.Decl ty x at init sp → bare_stmt stmt ≡ b.decl ty x (option_map bare_expr init)
@@ -38,6 +40,10 @@ module _ (stmt : Stmt) where
 
   pub bare_if_else : (e : Expr) (first other : List Stmt) (sp : Span) → stmt ≡ v.If e first (Some other) sp → bare_stmt stmt ≡ b.if_else (bare_expr e) (bare_stmts first) (bare_stmts other)
   bare_if_else e first other sp is = ap bare_stmt is ∙ (ap bare_stmt (sym (v.rolls-If e first (Some other) sp)) ∙ fold-roll-Stmt b.Stmt b.Head stmt_layer head_layer (s.If e first (Some other) sp))
+
+  pub bare_choice : (e : Expr) (first : List Stmt) (other : Option (List Stmt)) (sp : Span) → stmt ≡ v.If e first other sp → bare_stmt stmt ≡ if_of (bare_expr e) (bare_stmts first) (option_map bare_stmts other)
+  bare_choice e first None sp is = bare_if e first sp is
+  bare_choice e first (Some other) sp is = bare_if_else e first other sp is
 
   pub bare_while : (e : Expr) (body : List Stmt) (sp : Span) → stmt ≡ v.While e body sp → bare_stmt stmt ≡ b.while_ (bare_expr e) (bare_stmts body)
   bare_while e body sp is = ap bare_stmt is ∙ (ap bare_stmt (sym (v.rolls-While e body sp)) ∙ fold-roll-Stmt b.Stmt b.Head stmt_layer head_layer (s.While e body sp))
@@ -65,6 +71,13 @@ module _ (stmt : Stmt) where
 
   pub bare_call : (x : Name) (at : Span) (args : List Expr) (sp : Span) → stmt ≡ v.Call x at args sp → bare_stmt stmt ≡ b.call x (bare_exprs args)
   bare_call x at args sp is = ap bare_stmt is ∙ (ap bare_stmt (sym (v.rolls-Call x at args sp)) ∙ fold-roll-Stmt b.Stmt b.Head stmt_layer head_layer (s.Call x at args sp))
+
+pub head_is : (h : ForHead) (i : Option Stmt) (e : Option Expr) (k : Option Stmt) → i ≡ (out-ForHead h).init → e ≡ (out-ForHead h).test → k ≡ (out-ForHead h).step → bare_head h ≡ b.head (maybe_stmt (option_map bare_stmt i)) (option_map bare_expr e) (maybe_stmt (option_map bare_stmt k))
+head_is h i e k is_i is_e is_k =
+    bare_head_out h
+    ∙ (ap (λ x. b.head (maybe_stmt (option_map bare_stmt x)) (option_map bare_expr (out-ForHead h).test) (maybe_stmt (option_map bare_stmt (out-ForHead h).step))) (sym is_i)
+    ∙ (ap (λ x. b.head (maybe_stmt (option_map bare_stmt i)) (option_map bare_expr x) (maybe_stmt (option_map bare_stmt (out-ForHead h).step))) (sym is_e)
+    ∙ ap (λ x. b.head (maybe_stmt (option_map bare_stmt i)) (option_map bare_expr e) (maybe_stmt (option_map bare_stmt x))) (sym is_k)))
 
 module _ (expr : Expr) where
   pub bare_item : (x : Name) (subs : List Expr) (sp : Span) → expr ≡ ve.Item x subs sp → bare_expr expr ≡ b.item x (bare_exprs subs)

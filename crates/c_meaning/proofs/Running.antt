@@ -51,6 +51,22 @@ leads_same f m o = record { follows = λ last end answer r. r }
 pub leads_on : (f g h : Meaning) (m1 m2 m3 : State) (o1 o2 o3 : Sunk) → Leads f m1 o1 g m2 o2 → Leads g m2 o2 h m3 o3 → Leads f m1 o1 h m3 o3
 leads_on f g h m1 m2 m3 o1 o2 o3 a b = record { follows = λ last end answer r. a.follows last end answer (b.follows last end answer r) }
 
+-- ---- equal answers, ends, faults and states
+
+pub ran_as : {f : Meaning} {m m1 : State} {o o1 : Sunk} (answer same : Result End RunFault) → answer ≡ same → Ran f m o m1 o1 same → Ran f m o m1 o1 answer
+ran_as {f = f} {m = m} {m1 = m1} {o = o} {o1 = o1} answer same is r = subst (Ran f m o m1 o1) (sym is) r
+
+pub ran_next : {f : Meaning} {m m1 : State} {o o1 : Sunk} (e : End) → e ≡ Next → Ran f m o m1 o1 (Ok e) → Ran f m o m1 o1 (Ok Next)
+ran_next {f = f} {m = m} {m1 = m1} {o = o} {o1 = o1} e is r = subst (λ a. Ran f m o m1 o1 (Ok a)) is r
+
+pub ran_fault : {f : Meaning} {m m1 : State} {o o1 : Sunk} (answer : Result End RunFault) (x y : RunFault) → answer ≡ Err y → y ≡ x → Ran f m o m1 o1 (Err x) → Ran f m o m1 o1 answer
+ran_fault {f = f} {m = m} {m1 = m1} {o = o} {o1 = o1} answer x y is same r = subst (Ran f m o m1 o1) (sym (is ∙ ap Err same)) r
+
+pub ran_from : {f : Meaning} {m m1 : State} {o o1 : Sunk} {r : Result End RunFault} (m0 : State) → m0 ≡ m → Ran f m0 o m1 o1 r → Ran f m o m1 o1 r
+ran_from {f = f} {m1 = m1} {o = o} {o1 = o1} {r = r} m0 is ran = subst (λ s. Ran f s o m1 o1 r) is ran
+
+-- ---- ends
+
 -- a run that changes neither lines nor turns
 pub ran_quietly : (f : Meaning) (m new : State) (o : Sunk) (e : End) → ((lines : List ℤ) (turns : ℕ) → f (in_full m lines turns) ≡ record { state = in_full new lines turns; end = end_of e }) → new.turns ≡ m.turns → Ran f m o new o (Ok e)
 ran_quietly f m new o e q same = record {

@@ -13,6 +13,10 @@ use Rattle.c_semantics.specs.Meaning.Statements.{exec_all}
 use Rattle.c_meaning.specs.declared.functions.Known.{Known}
 use Rattle.c_meaning.specs.declared.functions.Stop.{Stop}
 use Rattle.c_meaning.specs.declared.functions.Stop.TheVariants as stop
+use Rattle.c_meaning.specs.declared.run.End.{End}
+use Rattle.c_meaning.specs.declared.run.End.TheVariants.{Trapped}
+use Rattle.c_meaning.specs.declared.run.RunFault.{RunFault}
+use Rattle.c_meaning.specs.declared.run.RunFault.TheVariants.{Memory}
 use Rattle.c_meaning.specs.declared.scope.Scope.{Scope}
 use Rattle.c_meaning.specs.Runnable.{RunnableTops, RunnableStmts}
 use Rattle.c_meaning.specs.Scopes.{env_of}
@@ -38,3 +42,7 @@ argument_at ds s t (e ∷ es) = and_then (eval ds s (bare_expr e)) (λ z. and_th
 abbrev pub Stops : Stop → Result (List Var) Trap → Type 0
 Stops (stop.Trap t) r = r ≡ Err t
 Stops stop.Memory r = Unit {0}
+
+abbrev pub stopped_as : Stop → Result End RunFault
+stopped_as (stop.Trap t) = Ok (Trapped t)
+stopped_as stop.Memory = Err Memory

@@ -1,3 +1,4 @@
+pub mod Choices
 pub mod Functions
 pub mod Ends
 pub mod Loops

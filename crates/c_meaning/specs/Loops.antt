@@ -1,14 +1,15 @@
 -- What a loop of the code stands for.
-use Rattle.std.specs.Prelude.{ℕ, Option, Some, None, Bool, true, false}
+use Rattle.std.specs.Prelude.{ℕ, ◌+◌, Option, Some, None, Bool, true, false}
 use Rattle.std.specs.Option.{option_map, option_copied}
 use Rattle.c_tree.specs.Bare.{Expr, MaybeStmt}
 use Rattle.c_tree.specs.BareOf.{bare_expr, bare_stmt, bare_stmts, maybe_stmt}
 use Rattle.c_tree.specs.WellFormed.{WellFormedOption}
-use Rattle.c_semantics.specs.Meaning.Runs.{Meaning, turn_of, for_turn}
-use Rattle.c_semantics.specs.Meaning.SimpleStatements.{Env}
+use Rattle.c_semantics.specs.Meaning.Runs.{Meaning, then_do, turn_of, for_turn, while_loop}
+use Rattle.c_semantics.specs.Meaning.SimpleStatements.{Env, head_test}
 use Rattle.c_semantics.specs.Meaning.Statements.{exec_all, exec_maybe}
 use Rattle.c_meaning.specs.declared.loops.Loop.{Loop}
 use Rattle.c_meaning.specs.Runnable.{RunnableStmts, RunnablePart}
+use Rattle.c_meaning.specs.Sizes.{stmts_size, part_size}
 
 abbrev pub test_of : Loop → Option Expr
 test_of l = option_map bare_expr (option_copied l.test)
@@ -23,6 +24,13 @@ counted_turn false f next = turn_of f
 
 abbrev pub turn_in : ℕ → Env → Loop → Meaning
 turn_in n env l = counted_turn l.counts (exec_all n env (bare_stmts l.body.now)) (exec_maybe n env (next_of l))
+
+-- what a `for` head begins with, and then its loop
+abbrev pub head_run : ℕ → Env → MaybeStmt → Loop → Meaning
+head_run n env init l s = then_do (exec_maybe n env init s) (while_loop n (head_test env.defines (test_of l)) (turn_in n env l))
+
+abbrev pub loop_size : Loop → ℕ
+loop_size l = stmts_size (bare_stmts l.body.now) + part_size (next_of l)
 
 pub record RunnableLoop (l : Loop) : Type 0 where
   pub test : WellFormedOption (test_of l)

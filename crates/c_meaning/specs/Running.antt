@@ -29,6 +29,9 @@ pub record Sunk : Type 0 where
   pub held : Option (List ℕ)
   pub faults : ℕ
 
+abbrev pub sunk : Option (List ℕ) → ℕ → Sunk
+sunk held faults = record { held = held; faults = faults }
+
 -- the run is where the machine and the sink are, and ends so; the sink held the base before the first line
 pub record Reached (base : Option (List ℕ)) (new : State) (sunk : Sunk) (e : End) (r : Run) : Type 0 where
   pub ended : r.end ≡ end_of e

@@ -10,4 +10,5 @@ pub mod machine;
 pub mod run;
 pub mod scope;
 pub mod simple;
+pub mod statements;
 pub mod variable;

@@ -1,6 +1,6 @@
 //! Statements without parts of their own: declarations, assignments, input and print (C11 6.7, 6.5.16).
 
-ghost use Rattle.std.specs.Prelude.{◌≡◌, map, IfOk, Ok, if◌then◌else◌};
+ghost use Rattle.std.specs.Prelude.{◌≡◌, map, IfOk, IfErr, Ok, if◌then◌else◌};
 ghost use Rattle.std.specs.Option.{option_copied, option_map};
 ghost use Rattle.c_tree.specs.BareOf.{bare_top, bare_expr, bare_exprs, bare_target};
 ghost use Rattle.c_tree.specs.Arithmetic as numbers;
@@ -15,13 +15,12 @@ ghost use Rattle.c_meaning.specs.Variables.{cell_in, FitFrom};
 
 use crate::expressions::{eval, place};
 use crate::machine::Machine;
-use crate::run::End;
+use crate::run::{End, RunFault};
 use crate::scope::Scope;
 use crate::variable::{Cell, Variable};
 use c_tree::arithmetic::{Trap, apply_bin, common, convert};
 use c_tree::name::Name;
 use c_tree::tree::{BinOp, Expr, SetOp, Target, Ty};
-use std::alloc::AllocError;
 
 /// Whether a test holds: its value isn't 0.
 pub fn holds(scope: &Scope, m: &Machine, e: &Expr) -> Result<bool, Trap>
@@ -62,7 +61,7 @@ pub fn printed(scope: &Scope, m: &Machine, e: &Expr) -> Result<i64, Trap>
     converted(scope, m, Ty::Long, e)
 }
 
-/// A declaration (C11 6.7.9).
+/// A declaration (C11 6.7.9). The only fault is want of memory.
 #[tactic(auto, using(crate::proofs::Assignments::declarations))]
 pub fn declare(
     scope: &Scope,
@@ -70,13 +69,16 @@ pub fn declare(
     ty: Ty,
     name: &Name,
     init: &Option<Expr>,
-) -> Result<End, AllocError>
+) -> Result<End, RunFault>
     requires known { RunnableTops (map bare_top scope.now.items.now) }
     requires well_formed { WellFormedOption (option_map bare_expr init.now) }
     ensures run { IfOk result (λ end. meaning.declared (env_of scope.now).defines ty name.now (option_map bare_expr init.now) m.old ≡ record { state = m.new; end = end_of end }) }
     ensures turns { IfOk result (λ _. m.new.turns ≡ m.old.turns) }
+    ensures fault { IfErr result (λ fault. fault ≡ RunFault.Memory) }
 {
-    m.push(name, Cell::Scalar { ty, value: None })?;
+    if m.push(name, Cell::Scalar { ty, value: None }).is_err() {
+        return Err(RunFault::Memory);
+    }
     match init {
         None => Ok(End::Next),
         Some(e) => match converted(scope, m, ty, e) {

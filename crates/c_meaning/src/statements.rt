@@ -1,0 +1,350 @@
+//! Statements (C11 6.8). Each function runs from one state of the machine and the sink to another as the meaning does.
+
+ghost use Rattle.std.specs.Prelude.{◌≡◌, map};
+ghost use Rattle.std.specs.Option.{option_copied, option_map};
+ghost use Rattle.c_tree.specs.BareOf.{bare_top, bare_expr, bare_exprs, bare_stmt, bare_stmts, bare_head, maybe_stmt};
+ghost use Rattle.c_tree.specs.WellFormed.{WellFormedExpr};
+ghost use Rattle.c_tree.specs.Bare as bare;
+ghost use Rattle.c_semantics.specs.Meaning.Runs as runs;
+ghost use Rattle.c_semantics.specs.Meaning.SimpleStatements as simple;
+ghost use Rattle.c_semantics.specs.Meaning.Statements as meaning;
+ghost use Rattle.c_meaning.specs.Choices.{if_of};
+ghost use Rattle.c_meaning.specs.Functions.{stopped_as};
+ghost use Rattle.c_meaning.specs.Loops.{RunnableLoop, head_run, test_of, turn_in};
+ghost use Rattle.c_meaning.specs.Runnable.{RunnableTops, RunnableHead, RunnablePart, RunnableStmt, RunnableStmts};
+ghost use Rattle.c_meaning.specs.Running.{Ran, sunk};
+ghost use Rattle.c_meaning.specs.Scopes.{env_of};
+
+use crate::functions::{Stop, arguments, function_named};
+use crate::lines::write_line;
+use crate::loops::Loop;
+use crate::machine::Machine;
+use crate::run::{End, RunFault, call_end, loop_end, turn_end};
+use crate::scope::Scope;
+use crate::simple::{declare, head_holds, holds, printed, set_to, step_by, take_input};
+use c_tree::arithmetic::Trap;
+use c_tree::boxed::Boxed;
+use c_tree::name::Name;
+use c_tree::tree::{Expr, ExprList, ForHead, Stmt, StmtList};
+use outside_io::traits::Sink;
+
+/// `print`: a line for the value as a `long long`.
+fn print<K: Sink>(scope: &Scope, m: &Machine, out: &mut K, e: &Expr) -> Result<End, RunFault>
+    requires known { RunnableTops (map bare_top scope.now.items.now) }
+    requires well_formed { WellFormedExpr (bare_expr e.now) }
+    ensures { Ran (simple.print_value (env_of scope.now).defines (bare_expr e.now)) m.now (sunk (K.held out.old) (K.faults out.old)) m.now (sunk (K.held out.new) (K.faults out.new)) result }
+{
+    match printed(scope, m, e) {
+        Err(trap) => Ok(End::Trapped(trap)),
+        Ok(number) => match write_line(out, number) {
+            Ok(()) => Ok(End::Next),
+            Err(_) => Err(RunFault::WriteFault),
+        },
+    }
+}
+
+/// A part of a `for` head.
+fn head_part(part: &Option<Boxed<Stmt>>) -> Option<&Stmt>
+    ensures { option_copied result ≡ part.now }
+{
+    match part {
+        Some(stmt) => Some(stmt.get()),
+        None => None,
+    }
+}
+
+/// How a call ends that has no frame.
+fn stopped(stop: Stop) -> Result<End, RunFault>
+    ensures { result ≡ stopped_as stop }
+{
+    match stop {
+        Stop::Trap(trap) => Ok(End::Trapped(trap)),
+        Stop::Memory => Err(RunFault::Memory),
+    }
+}
+
+/// One statement.
+#[tactic(none)]
+#[cycle(run)]
+pub fn run_stmt<K: Sink>(
+    scope: &Scope,
+    m: &mut Machine,
+    out: &mut K,
+    stmt: &Stmt,
+) -> Result<End, RunFault>
+    requires known { RunnableTops (map bare_top scope.now.items.now) }
+    requires runnable { RunnableStmt (bare_stmt stmt.now) }
+    ensures { Ran (meaning.exec scope.now.bound (env_of scope.now) (bare_stmt stmt.now)) m.old (sunk (K.held out.old) (K.faults out.old)) m.new (sunk (K.held out.new) (K.faults out.new)) result }
+{
+    match stmt {
+        Stmt::Decl { ty, name, init, .. } => declare(scope, m, *ty, name, init),
+        Stmt::Set {
+            target, op, value, ..
+        } => Ok(set_to(scope, m, target, *op, value)),
+        Stmt::Step { target, up, .. } => Ok(step_by(scope, m, target, *up)),
+        Stmt::Print { value, .. } => print(scope, m, out, value),
+        Stmt::Input { target, .. } => Ok(take_input(scope, m, target)),
+        Stmt::If { test, yes, no, .. } => run_if(scope, m, out, test, yes, no),
+        Stmt::While { test, body, .. } => {
+            let repeated = Loop {
+                test: Some(test),
+                body,
+                counts: false,
+                next: None,
+            };
+            Ok(loop_end(repeat(scope, m, out, &repeated, scope.bound)?))
+        }
+        Stmt::Do { body, test, .. } => {
+            let repeated = Loop {
+                test: Some(test),
+                body,
+                counts: false,
+                next: None,
+            };
+            Ok(loop_end(repeat_after(scope, m, out, &repeated)?))
+        }
+        Stmt::For { head, body, .. } => run_for(scope, m, out, head, body),
+        Stmt::Block { body, .. } => run_block(scope, m, out, body),
+        Stmt::Break { .. } => Ok(End::Break),
+        Stmt::Continue { .. } => Ok(End::Continue),
+        Stmt::Empty { .. } => Ok(End::Next),
+        Stmt::Omp { .. } => unreachable!("a program that holds no directive"),
+        Stmt::Call { name, args, .. } => call(scope, m, out, name, args),
+    }
+}
+
+/// Statements, one after another, up to the first that doesn't end `Next`.
+#[tactic(none)]
+#[cycle(run)]
+pub fn run_stmts<K: Sink>(
+    scope: &Scope,
+    m: &mut Machine,
+    out: &mut K,
+    stmts: &[Stmt],
+) -> Result<End, RunFault>
+    requires known { RunnableTops (map bare_top scope.now.items.now) }
+    requires runnable { RunnableStmts (bare_stmts stmts.now) }
+    ensures { Ran (meaning.exec_all scope.now.bound (env_of scope.now) (bare_stmts stmts.now)) m.old (sunk (K.held out.old) (K.faults out.old)) m.new (sunk (K.held out.new) (K.faults out.new)) result }
+{
+    'each: for stmt in stmts {
+        match run_stmt(scope, m, out, stmt)? {
+            End::Next => {}
+            end => return Ok(end),
+        }
+    }
+    Ok(End::Next)
+}
+
+/// A block: what it declares goes with it.
+#[tactic(none)]
+#[cycle(run)]
+pub fn run_block<K: Sink>(
+    scope: &Scope,
+    m: &mut Machine,
+    out: &mut K,
+    body: &StmtList,
+) -> Result<End, RunFault>
+    requires known { RunnableTops (map bare_top scope.now.items.now) }
+    requires runnable { RunnableStmts (bare_stmts body.now) }
+    ensures { Ran (runs.in_block (meaning.exec_all scope.now.bound (env_of scope.now) (bare_stmts body.now))) m.old (sunk (K.held out.old) (K.faults out.old)) m.new (sunk (K.held out.new) (K.faults out.new)) result }
+{
+    let len = m.frame_len();
+    let end = run_stmts(scope, m, out, body.as_slice())?;
+    m.keep(len);
+    Ok(end)
+}
+
+/// `if` (C11 6.8.4.1): the test is evaluated once.
+#[tactic(none)]
+#[cycle(run)]
+fn run_if<K: Sink>(
+    scope: &Scope,
+    m: &mut Machine,
+    out: &mut K,
+    test: &Expr,
+    yes: &StmtList,
+    no: &Option<StmtList>,
+) -> Result<End, RunFault>
+    requires known { RunnableTops (map bare_top scope.now.items.now) }
+    requires runnable { RunnableStmt (if_of (bare_expr test.now) (bare_stmts yes.now) (option_map bare_stmts no.now)) }
+    ensures { Ran (meaning.exec scope.now.bound (env_of scope.now) (if_of (bare_expr test.now) (bare_stmts yes.now) (option_map bare_stmts no.now))) m.old (sunk (K.held out.old) (K.faults out.old)) m.new (sunk (K.held out.new) (K.faults out.new)) result }
+{
+    match holds(scope, m, test) {
+        Err(trap) => Ok(End::Trapped(trap)),
+        Ok(true) => run_block(scope, m, out, yes),
+        Ok(false) => match no {
+            Some(no) => run_block(scope, m, out, no),
+            None => Ok(End::Next),
+        },
+    }
+}
+
+/// A `for` loop (C11 6.8.5.3): the scope of its head is a block round it.
+#[tactic(none)]
+#[cycle(run)]
+fn run_for<K: Sink>(
+    scope: &Scope,
+    m: &mut Machine,
+    out: &mut K,
+    head: &ForHead,
+    body: &StmtList,
+) -> Result<End, RunFault>
+    requires known { RunnableTops (map bare_top scope.now.items.now) }
+    requires runnable { RunnableStmt (bare.for_ (bare_head head.now) (bare_stmts body.now)) }
+    ensures { Ran (meaning.exec scope.now.bound (env_of scope.now) (bare.for_ (bare_head head.now) (bare_stmts body.now))) m.old (sunk (K.held out.old) (K.faults out.old)) m.new (sunk (K.held out.new) (K.faults out.new)) result }
+{
+    let len = m.frame_len();
+    let repeated = Loop {
+        test: head.test.as_ref(),
+        body,
+        counts: true,
+        next: head_part(&head.step),
+    };
+    let end = run_head(scope, m, out, head_part(&head.init), &repeated)?;
+    m.keep(len);
+    Ok(end)
+}
+
+/// What a `for` begins with, and then its turns.
+#[tactic(none)]
+#[cycle(run)]
+fn run_head<K: Sink>(
+    scope: &Scope,
+    m: &mut Machine,
+    out: &mut K,
+    init: Option<&Stmt>,
+    repeated: &Loop,
+) -> Result<End, RunFault>
+    requires known { RunnableTops (map bare_top scope.now.items.now) }
+    requires begin { RunnablePart (maybe_stmt (option_map bare_stmt (option_copied init))) }
+    requires runnable { RunnableLoop repeated.now }
+    ensures { Ran (head_run scope.now.bound (env_of scope.now) (maybe_stmt (option_map bare_stmt (option_copied init.entry))) repeated.now) m.old (sunk (K.held out.old) (K.faults out.old)) m.new (sunk (K.held out.new) (K.faults out.new)) result }
+{
+    match run_part(scope, m, out, init)? {
+        End::Next => Ok(loop_end(repeat(scope, m, out, repeated, scope.bound)?)),
+        end => Ok(end),
+    }
+}
+
+/// A part of a `for` head.
+#[tactic(none)]
+#[cycle(run)]
+fn run_part<K: Sink>(
+    scope: &Scope,
+    m: &mut Machine,
+    out: &mut K,
+    part: Option<&Stmt>,
+) -> Result<End, RunFault>
+    requires known { RunnableTops (map bare_top scope.now.items.now) }
+    requires runnable { RunnablePart (maybe_stmt (option_map bare_stmt (option_copied part))) }
+    ensures { Ran (meaning.exec_maybe scope.now.bound (env_of scope.now) (maybe_stmt (option_map bare_stmt (option_copied part.entry)))) m.old (sunk (K.held out.old) (K.faults out.old)) m.new (sunk (K.held out.new) (K.faults out.new)) result }
+{
+    match part {
+        None => Ok(End::Next),
+        Some(stmt) => run_stmt(scope, m, out, stmt),
+    }
+}
+
+/// So many turns at most: the test is asked before each, and once more after the last.
+#[tactic(none)]
+#[cycle(run)]
+fn repeat<K: Sink>(
+    scope: &Scope,
+    m: &mut Machine,
+    out: &mut K,
+    repeated: &Loop,
+    turns: u64,
+) -> Result<End, RunFault>
+    requires known { RunnableTops (map bare_top scope.now.items.now) }
+    requires runnable { RunnableLoop repeated.now }
+    ensures { Ran (runs.repeat turns (simple.head_test (env_of scope.now).defines (test_of repeated.now)) (turn_in scope.now.bound (env_of scope.now) repeated.now)) m.old (sunk (K.held out.old) (K.faults out.old)) m.new (sunk (K.held out.new) (K.faults out.new)) result }
+{
+    let mut left = turns;
+    'each: loop {
+        match head_holds(scope, m, repeated.test) {
+            Err(trap) => return Ok(End::Trapped(trap)),
+            Ok(false) => return Ok(End::Next),
+            Ok(true) => {}
+        }
+        if left == 0 {
+            return Ok(End::Cut);
+        }
+        left -= 1;
+        match run_turn(scope, m, out, repeated)? {
+            End::Next => {}
+            end => return Ok(end),
+        }
+    }
+}
+
+/// The turns of a `do` loop, whose first is due without a test.
+#[tactic(none)]
+#[cycle(run)]
+fn repeat_after<K: Sink>(
+    scope: &Scope,
+    m: &mut Machine,
+    out: &mut K,
+    repeated: &Loop,
+) -> Result<End, RunFault>
+    requires known { RunnableTops (map bare_top scope.now.items.now) }
+    requires runnable { RunnableLoop repeated.now }
+    ensures { Ran (runs.repeat_after scope.now.bound (simple.head_test (env_of scope.now).defines (test_of repeated.now)) (turn_in scope.now.bound (env_of scope.now) repeated.now)) m.old (sunk (K.held out.old) (K.faults out.old)) m.new (sunk (K.held out.new) (K.faults out.new)) result }
+{
+    if scope.bound == 0 {
+        return Ok(End::Cut);
+    }
+    match run_turn(scope, m, out, repeated)? {
+        End::Next => repeat(scope, m, out, repeated, scope.bound - 1),
+        end => Ok(end),
+    }
+}
+
+/// One turn; that of a `for` is counted, and ends with the head's last part.
+#[tactic(none)]
+#[cycle(run)]
+fn run_turn<K: Sink>(
+    scope: &Scope,
+    m: &mut Machine,
+    out: &mut K,
+    repeated: &Loop,
+) -> Result<End, RunFault>
+    requires known { RunnableTops (map bare_top scope.now.items.now) }
+    requires runnable { RunnableLoop repeated.now }
+    ensures { Ran (turn_in scope.now.bound (env_of scope.now) repeated.now) m.old (sunk (K.held out.old) (K.faults out.old)) m.new (sunk (K.held out.new) (K.faults out.new)) result }
+{
+    if !repeated.counts {
+        return Ok(turn_end(run_block(scope, m, out, repeated.body)?));
+    }
+    m.count_turn();
+    match turn_end(run_block(scope, m, out, repeated.body)?) {
+        End::Next => run_part(scope, m, out, repeated.next),
+        end => Ok(end),
+    }
+}
+
+/// A call (C11 6.5.2.2): the body runs in a frame that holds the arguments, and then the caller's is put back.
+#[tactic(none)]
+#[cycle(run)]
+fn call<K: Sink>(
+    scope: &Scope,
+    m: &mut Machine,
+    out: &mut K,
+    name: &Name,
+    args: &ExprList,
+) -> Result<End, RunFault>
+    requires known { RunnableTops (map bare_top scope.now.items.now) }
+    requires runnable { RunnableStmt (bare.call name.now (bare_exprs args.now)) }
+    ensures { Ran (meaning.exec scope.now.bound (env_of scope.now) (bare.call name.now (bare_exprs args.now))) m.old (sunk (K.held out.old) (K.faults out.old)) m.new (sunk (K.held out.new) (K.faults out.new)) result }
+{
+    let Some(function) = function_named(scope, name) else {
+        return Ok(End::Trapped(Trap::Unset));
+    };
+    let frame = match arguments(scope, m, function.params, args.as_slice()) {
+        Ok(frame) => frame,
+        Err(stop) => return stopped(stop),
+    };
+    let caller = m.swap_frame(frame);
+    let end = run_stmts(&function.scope, m, out, function.body)?;
+    m.swap_frame(caller);
+    Ok(call_end(end))
+}
