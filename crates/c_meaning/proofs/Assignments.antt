@@ -1,13 +1,13 @@
 -- Declarations, assignments and input: what they come to where their values are known.
-use Rattle.std.proofs.Common.{◌≡◌, ◌∙◌, sym, ap, refl, ℕ, Bool, true, false, List, ◌∷◌, Option, Some, None, Result, Ok, Err, ℤ}
+use Rattle.std.proofs.Common.{◌≡◌, ◌∙◌, ap, refl, ℕ, Bool, true, false, List, ◌∷◌, Some, None, Result, Ok, Err, ℤ}
 use Rattle.std.proofs.lemmas.Slice.Eq.{bytes_eq-Decides}
 use Rattle.std.specs.Prelude.{bytes_eq, if◌then◌else◌}
-use Rattle.c_tree.specs.Bare.{Name, Expr, Exprs, Target, target}
+use Rattle.c_tree.specs.Bare.{Name, Expr, Exprs, target}
 use Rattle.c_tree.specs.Arithmetic.{and_then, convert}
 use Rattle.c_tree.specs.declared.arithmetic.Trap.{Trap}
 use Rattle.c_tree.specs.declared.tree.Ty.{Ty}
 use Rattle.c_tree.specs.declared.tree.SetOp.{SetOp}
-use Rattle.c_semantics.specs.Meaning.State.{State, Var, Cell, scalar, find, write, look, store, write_at, push, or_else, with_frame}
+use Rattle.c_semantics.specs.Meaning.State.{State, scalar, find, write, look, store, write_at, push, or_else, with_frame}
 use Rattle.c_semantics.specs.Meaning.Expressions.{Define, eval, type_of}
 use Rattle.c_semantics.specs.Meaning.Runs.{Run, Next, Trapped, ends, with_value}
 use Rattle.c_semantics.specs.Meaning.SimpleStatements.{declared, set_to, take_input, changed, type_in, target_place, new_value, next_input, rest_of}

@@ -1,5 +1,5 @@
 -- Calls: the function that a name means, found from the end, and the arguments one by one.
-use Rattle.std.proofs.Common.{◌≡◌, ◌∙◌, sym, ap, refl, subst, ℕ, ◌+◌, ◌-◌, ◌<◌, Bool, true, false, ◌≤◌, List, [], ◌∷◌, ◌++◌, length, map, take, drop, reverse, Option, Some, None, Result, Ok, Err, ℤ, arith}
+use Rattle.std.proofs.Common.{◌≡◌, ◌∙◌, sym, ap, refl, subst, ℕ, ◌+◌, ◌-◌, ◌<◌, true, false, ◌≤◌, List, [], ◌∷◌, ◌++◌, length, map, take, drop, reverse, Option, Some, None, Result, Ok, Err, ℤ, arith}
 use Rattle.std.proofs.lemmas.List.{take_all, at_drop_more, drop_all, drop-drop, reverse-append}
 use Rattle.std.specs.Prelude.{slice_index_or, bytes_eq, if◌then◌else◌}
 use Rattle.c_tree.specs.Bare.{Name}
@@ -20,7 +20,6 @@ use Rattle.c_semantics.specs.Meaning.SimpleStatements.{Env, function_named}
 use Rattle.c_semantics.specs.Meaning.Statements.{exec_all}
 use Rattle.c_semantics.specs.Meaning.SimpleStatements as simple
 use Rattle.c_semantics.specs.Meaning.Programs.{env_after, env_with, no_env}
-use Rattle.c_semantics.proofs.Evals.{value_same}
 use Rattle.c_meaning.specs.Functions.{argument_at}
 use Rattle.c_meaning.proofs.Lists.{good_at, body_smaller, well_formed_at}
 use Rattle.c_meaning.proofs.Scopes.{env_here}

@@ -1,5 +1,5 @@
 -- The parts of an `if` are runnable, and smaller.
-use Rattle.std.proofs.Common.{◌≡◌, sym, ap, subst, ℕ, ◌+◌, ◌<◌, ◌≤◌, Option, Some, None, arith}
+use Rattle.std.proofs.Common.{◌≡◌, ap, subst, ◌+◌, ◌≤◌, Option, Some, None, arith}
 use Rattle.c_tree.specs.Bare.{Expr, Stmts}
 use Rattle.c_tree.specs.WellFormed.{WellFormedExpr}
 use Rattle.c_meaning.specs.Choices.{if_of}

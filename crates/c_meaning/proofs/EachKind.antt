@@ -2,7 +2,7 @@
 use Rattle.std.proofs.Common.{◌≡◌, ◌≢◌, ◌∙◌, ◌≤◌, sym, ap, refl, subst, ℕ, Bool, true, false, List, [], length, Option, Some, None, Result, Ok, Err, ℤ}
 use Rattle.std.specs.Prelude.{IfOk, IfErr, if◌then◌else◌}
 use Rattle.std.specs.Option.{option_map}
-use Rattle.c_tree.specs.Bare.{Name, Expr, num, Exprs, Target, Stmt, decl, set, step, print, input, while_, do_, for_, call, Stmts, MaybeStmt, no_stmt, Head, head, Program}
+use Rattle.c_tree.specs.Bare.{Name, Expr, num, Exprs, Target, Stmt, decl, set, step, input, while_, do_, for_, call, Stmts, MaybeStmt, no_stmt, Head, head, Program}
 use Rattle.c_tree.specs.BareOf.{bare_stmt, bare_stmts, maybe_stmt}
 use Rattle.c_tree.specs.declared.tree.Stmt as tree
 use Rattle.c_tree.specs.Arithmetic.{and_then, convert}
@@ -27,7 +27,7 @@ use Rattle.c_meaning.specs.declared.functions.Stop.{Stop}
 use Rattle.c_meaning.specs.declared.functions.Stop.TheVariants as stop
 use Rattle.c_meaning.specs.declared.loops.Loop.{Loop}
 use Rattle.c_meaning.specs.declared.run.End.{End}
-use Rattle.c_meaning.specs.declared.run.End.TheVariants.{Next, Cut, Trapped}
+use Rattle.c_meaning.specs.declared.run.End.TheVariants.{Next, Trapped}
 use Rattle.c_meaning.specs.declared.run.RunFault.{RunFault}
 use Rattle.c_meaning.specs.declared.run.RunFault.TheVariants.{WriteFault, Memory}
 use Rattle.c_meaning.specs.Choices.{if_of}
@@ -36,7 +36,7 @@ use Rattle.c_meaning.specs.Functions.{Stops, stopped_as}
 use Rattle.c_meaning.specs.Loops.{counted_turn, head_run, next_of, test_of, turn_in}
 use Rattle.c_meaning.specs.Running.{Sunk, Ran, line_text}
 use Rattle.c_meaning.proofs.Growth.{stmt_grows}
-use Rattle.c_meaning.proofs.Running.{Grows, Leads, ran_quietly, ran_memory, then_goes, then_stops, then_fails, block_ends, block_fails, end_ends, end_fails, frame_ends, frame_fails, Asks, test_holds, test_fails, test_traps, value_goes, value_traps, ran_ends, line_printed, line_failed}
+use Rattle.c_meaning.proofs.Running.{Grows, ran_quietly, ran_memory, then_goes, then_stops, then_fails, block_ends, block_fails, end_ends, end_fails, frame_ends, frame_fails, Asks, test_holds, test_fails, test_traps, value_goes, value_traps, ran_ends, line_printed, line_failed}
 use Rattle.c_meaning.proofs.States.{run_full, eval_full, holds_full, arguments_full, declared_full, set_full, input_full}
 use Rattle.c_meaning.proofs.Steps.{turn_grows}
 

@@ -1,5 +1,5 @@
 -- No run prints a line away.
-use Rattle.std.proofs.Common.{ℕ, List, [], ◌∷◌, Option, Some, Bool, true, false, refl}
+use Rattle.std.proofs.Common.{ℕ, [], ◌∷◌, Option, Some, Bool, true, false}
 use Rattle.std.specs.Prelude.{bytes_eq, if◌then◌else◌}
 use Rattle.c_tree.specs.Bare.{Name, Stmts, MaybeStmt, Stmt, define, extern_, global, function, main, Program}
 use Rattle.c_semantics.specs.Meaning.SimpleStatements.{Function, Env, function_named}

@@ -1,5 +1,5 @@
 -- The text of a line, written in two pieces.
-use Rattle.std.proofs.Common.{◌≡◌, sym, ap, subst, ℕ, List, [], ◌∷◌, ◌++◌, Option, ℤ}
+use Rattle.std.proofs.Common.{◌≡◌, subst, ℕ, List, [], ◌∷◌, ◌++◌, Option, ℤ}
 use Rattle.std.specs.Fmt.{signed_decimal}
 use Rattle.outside_io.specs.Bytes.{Gains, GainsPrefix}
 use Rattle.outside_io.proofs.SinkBytes.{GainsPrefix-longer, GainsPrefix-append}

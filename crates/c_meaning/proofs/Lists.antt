@@ -1,8 +1,8 @@
 -- Statements, items and expressions of a list, one by one.
-use Rattle.std.proofs.Common.{◌≡◌, ◌∙◌, sym, ap, refl, subst, ℕ, zero, suc, ◌+◌, ◌<◌, ◌≤◌, List, [], ◌∷◌, ◌++◌, length, map, take, drop, arith}
-use Rattle.std.proofs.lemmas.List.{at_drop_more, drop_all, take_all, take_more, map-append}
+use Rattle.std.proofs.Common.{◌≡◌, ◌∙◌, sym, ap, subst, ℕ, zero, suc, ◌+◌, ◌<◌, ◌≤◌, List, [], ◌∷◌, ◌++◌, length, map, take, drop, arith}
+use Rattle.std.proofs.lemmas.List.{at_drop_more, drop_all, take_more, map-append}
 use Rattle.std.specs.Prelude.{slice_index_or}
-use Rattle.c_tree.specs.Bare.{Top, Stmts, no_stmts, more_stmts, Exprs, no_exprs, more_exprs}
+use Rattle.c_tree.specs.Bare.{no_stmts, more_stmts, no_exprs, more_exprs}
 use Rattle.c_tree.specs.BareOf.{bare_top, bare_stmt, bare_stmts, bare_expr, bare_exprs}
 use Rattle.c_tree.specs.WellFormed.{WellFormedExpr, WellFormedExprs}
 use Rattle.c_meaning.specs.Runnable.{RunnableStmt, RunnableStmts, RunnableTop, RunnableTops}

@@ -1,11 +1,10 @@
 -- A program that is well formed and holds no directive is runnable.
-use Rattle.std.proofs.Common.{◌≡◌, sym, ap, refl, List, [], ◌∷◌, Option, Some, None, Bool, true, false}
-use Rattle.std.specs.Prelude.{IsTrue, ◌&&◌}
-use Rattle.std.specs.List.{list_all}
-use Rattle.c_tree.specs.Bare.{Expr, Exprs, no_exprs, more_exprs, Stmt, decl, set, step, print, input, if_, if_else, while_, do_, for_, block, break_, continue_, empty, omp, call, Stmts, no_stmts, more_stmts, MaybeStmt, no_stmt, a_stmt, Head, head, Top, define, extern_, global, function, main, Program}
-use Rattle.c_tree.specs.WellFormed.{WellFormedExprs, WellFormedOption, WellFormedInitial, WellFormedStmt, WellFormedStmts, WellFormedPart, WellFormedTop, WellFormedTops}
+use Rattle.std.proofs.Common.{◌≡◌, refl, [], ◌∷◌, Option, Some, None, Bool, true, false}
+use Rattle.std.specs.Prelude.{◌&&◌}
+use Rattle.c_tree.specs.Bare.{Expr, Exprs, no_exprs, more_exprs, Stmt, decl, set, step, print, input, if_, if_else, while_, do_, for_, block, break_, continue_, empty, omp, call, Stmts, no_stmts, more_stmts, MaybeStmt, no_stmt, a_stmt, head, Top, define, extern_, global, function, main, Program}
+use Rattle.c_tree.specs.WellFormed.{WellFormedOption, WellFormedInitial, WellFormedStmt, WellFormedStmts, WellFormedPart, WellFormedTop, WellFormedTops}
 use Rattle.c_meaning.specs.Plain.{is_plain_stmt, are_plain_stmts, is_plain_part, is_plain_top, is_plain}
-use Rattle.c_meaning.specs.Runnable.{RunnableStmt, RunnableStmts, RunnablePart, RunnableHead, RunnableTop, RunnableTops}
+use Rattle.c_meaning.specs.Runnable.{RunnableStmt, RunnableStmts, RunnablePart, RunnableTop, RunnableTops}
 
 first_true : (a b : Bool) → a && b ≡ true → a ≡ true
 first_true true b h = refl

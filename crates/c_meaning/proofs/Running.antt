@@ -1,5 +1,5 @@
 -- How runs of parts make up the run of the whole: one lemma for each way to put meanings together.
-use Rattle.std.proofs.Common.{◌≡◌, ◌≢◌, ◌∙◌, sym, ap, refl, subst, ℕ, zero, suc, ◌+◌, ◌≤◌, ◌<◌, ◌⊎◌, inl, inr, min, ◌^◌, Bool, true, false, List, [], ◌∷◌, ◌++◌, length, Option, Some, None, Result, Ok, Err, ℤ, append_assoc, append-nil, arith}
+use Rattle.std.proofs.Common.{◌≡◌, ◌≢◌, ◌∙◌, sym, ap, refl, subst, ℕ, ◌+◌, ◌≤◌, inl, inr, Bool, true, false, List, [], ◌∷◌, ◌++◌, length, Option, Result, Ok, Err, ℤ, append_assoc, append-nil, arith}
 use Rattle.outside_io.specs.Bytes.{Gains, GainsPrefix}
 use Rattle.outside_io.specs.Faults.{Rose}
 use Rattle.outside_io.proofs.SinkBytes.{Gains-append, GainsPrefix-longer, GainsPrefix-append, GainsPrefix-whole}

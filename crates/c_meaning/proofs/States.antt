@@ -1,13 +1,13 @@
 -- What doesn't depend on lines and turns: expressions, and statements that print nothing.
-use Rattle.std.proofs.Common.{◌≡◌, ◌∙◌, sym, ap, refl, ℕ, Bool, true, false, List, [], ◌∷◌, Option, Some, None, Result, Ok, Err, ℤ}
+use Rattle.std.proofs.Common.{◌≡◌, ap, refl, ℕ, List, [], ◌∷◌, Option, Some, None, Result, Ok, Err, ℤ}
 use Rattle.c_tree.specs.Bare.{Name, Expr, num, read, item, un, bin, cond, cast, Exprs, no_exprs, more_exprs, Target, target, Param}
 use Rattle.c_tree.specs.Arithmetic.{and_then, un_type, convert}
 use Rattle.c_tree.specs.declared.arithmetic.Trap.{Trap}
 use Rattle.c_tree.specs.declared.tree.Ty.{Ty}
 use Rattle.c_tree.specs.declared.tree.SetOp.{SetOp}
 use Rattle.c_semantics.specs.Meaning.State.{State, Var, Cell, scalar, find, look, store, write_at, push}
-use Rattle.c_semantics.specs.Meaning.Expressions.{Define, type_of, eval, place, in_dim, dims_of, or_unset}
-use Rattle.c_semantics.specs.Meaning.Runs.{Run, End, Meaning, ends, Next, with_value}
+use Rattle.c_semantics.specs.Meaning.Expressions.{Define, type_of, eval, place, in_dim, dims_of}
+use Rattle.c_semantics.specs.Meaning.Runs.{Run, ends, Next, with_value}
 use Rattle.c_semantics.specs.Meaning.SimpleStatements.{holds_in, head_test, declared, set_to, take_input, next_input, rest_of, target_place, changed, type_in, new_value, arguments}
 use Rattle.c_semantics.proofs.Evals.{value_same}
 use Rattle.c_meaning.specs.Running.{in_full}

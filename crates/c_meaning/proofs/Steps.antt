@@ -1,34 +1,29 @@
 -- The runs of statements from those of their parts, where the items before them are known.
-use Rattle.std.proofs.Common.{◌≡◌, ◌≢◌, ◌∙◌, sym, ap, refl, subst, ℕ, zero, suc, ◌+◌, ◌-◌, ◌<◌, ◌≤◌, Bool, true, false, List, [], ◌∷◌, length, drop, Option, Some, None, Result, Ok, Err, ℤ, arith}
+use Rattle.std.proofs.Common.{◌≡◌, ◌≢◌, sym, subst, ℕ, zero, suc, ◌+◌, ◌-◌, ◌<◌, ◌≤◌, Bool, true, false, List, length, drop, Option, Result, Ok, Err, arith}
 use Rattle.std.specs.Prelude.{slice_index_or}
-use Rattle.c_tree.specs.Bare.{Name, Expr, Exprs, Stmt, Stmts, MaybeStmt, Program, if_, if_else, while_, do_, for_, head, block, call, print}
+use Rattle.c_tree.specs.Bare.{Expr, Stmts, MaybeStmt, Program}
 use Rattle.c_tree.specs.BareOf.{bare_stmt, bare_stmts}
-use Rattle.c_tree.specs.Arithmetic.{and_then, convert}
 use Rattle.c_tree.specs.declared.arithmetic.Trap.{Trap}
-use Rattle.c_tree.specs.declared.arithmetic.Trap.TheVariants.{Unset}
-use Rattle.c_tree.specs.declared.tree.Ty.TheVariants.{Long}
 use Rattle.c_tree.specs.declared.tree.Stmt as tree
-use Rattle.c_semantics.specs.Meaning.State.{Var, State, keep, with_frame, print_line}
-use Rattle.c_semantics.specs.Meaning.Expressions.{eval}
+use Rattle.c_semantics.specs.Meaning.State.{State}
 use Rattle.c_semantics.specs.Meaning.Runs as runs
 use Rattle.c_semantics.specs.Meaning.Runs.{Run, Meaning, ends, then_do, ask, in_block, with_end, repeat, repeat_after, turn_of, for_turn, while_loop, do_loop, loop_end, turn_end}
-use Rattle.c_semantics.specs.Meaning.SimpleStatements.{Env, Function, head_test, holds_in, arguments, call_of, call_end, in_frame, function_named, print_value}
+use Rattle.c_semantics.specs.Meaning.SimpleStatements.{Env, head_test}
 use Rattle.c_semantics.specs.Meaning.Statements.{exec, exec_all, exec_maybe}
 use Rattle.c_semantics.specs.Meaning.Programs.{env_after, no_env}
 use Rattle.c_semantics.proofs.Invariant.{block_keeps, repeat_keeps, turn_keeps}
 use Rattle.c_semantics.proofs.Grows.{MoreLines, lines_grow}
 use Rattle.c_meaning.specs.declared.run.End.{End}
-use Rattle.c_meaning.specs.declared.run.End.TheVariants.{Next, Break, Continue, Trapped, Cut}
+use Rattle.c_meaning.specs.declared.run.End.TheVariants.{Next, Trapped, Cut}
 use Rattle.c_meaning.specs.declared.run.RunFault.{RunFault}
-use Rattle.c_meaning.specs.declared.run.RunFault.TheVariants.{WriteFault, Memory}
 use Rattle.c_meaning.specs.Ends.{end_of}
 use Rattle.c_meaning.specs.Loops.{counted_turn}
 use Rattle.c_meaning.specs.States.{one_turn_more}
 use Rattle.c_meaning.specs.Running.{Sunk, Ran}
-use Rattle.c_meaning.proofs.Growth.{stmt_grows, stmts_grow, part_grows}
+use Rattle.c_meaning.proofs.Growth.{stmts_grow, part_grows}
 use Rattle.c_meaning.proofs.Lists.{stmts_more, stmts_end}
-use Rattle.c_meaning.proofs.Running.{Grows, Leads, ran_ends, ran_memory, leads_on, then_goes, then_stops, then_fails, block_ends, block_fails, end_ends, end_fails, frame_ends, frame_fails, Asks, test_holds, test_fails, test_traps, value_goes, value_traps, turn_counts}
-use Rattle.c_meaning.proofs.States.{test_full, arguments_full}
+use Rattle.c_meaning.proofs.Running.{Grows, Leads, ran_ends, leads_on, then_goes, then_stops, then_fails, end_ends, end_fails, Asks, test_holds, test_fails, test_traps, turn_counts}
+use Rattle.c_meaning.proofs.States.{test_full}
 
 module _ (n : ℕ) (p : Program) where
   abbrev env : Env

@@ -1,7 +1,6 @@
 -- Values of expressions: what settles an operator alone, and the place of an element.
-use Rattle.std.proofs.Common.{◌≡◌, ◌∙◌, sym, ap, refl, subst, ℕ, zero, suc, ◌+◌, ◌*◌, ◌<◌, ◌≤◌, ◌^◌, Bool, true, false, List, [], ◌∷◌, length, drop, Option, Some, None, Result, Ok, Err, ℤ, arith}
-use Rattle.std.specs.Prelude.{if◌then◌else◌}
-use Rattle.c_tree.specs.Arithmetic.{settles, bin_type, is_zero}
+use Rattle.std.proofs.Common.{◌≡◌, refl, Some, ℤ}
+use Rattle.c_tree.specs.Arithmetic.{settles, bin_type}
 use Rattle.c_tree.specs.declared.tree.BinOp.{BinOp}
 use Rattle.c_tree.specs.declared.tree.BinOp.TheVariants.{Mul, Div, Rem, Add, Sub, Lt, Le, Gt, Ge, Eq, Ne, And, Or}
 use Rattle.c_tree.specs.declared.tree.Ty.{Ty}

@@ -1,6 +1,6 @@
 -- The place of a name in a list of variables: its search, what the name means, and what a write of it changes.
 use Rattle.std.proofs.Common.{◌≡◌, ◌∙◌, sym, ap, refl, subst, ℕ, zero, suc, ◌+◌, ◌-◌, ◌<◌, ◌≤◌, Bool, true, false, List, [], ◌∷◌, ◌++◌, length, take, drop, reverse, set, arith}
-use Rattle.std.proofs.lemmas.List.{reverse-append, length-reverse, length-drop, take-append-drop, take_all, drop_all, take_more, at_drop_more, get_or-reverse, set-append_left, set-append_right, length-set}
+use Rattle.std.proofs.lemmas.List.{reverse-append, length-reverse, length-drop, take-append-drop, take_all, drop_all, take_more, at_drop_more, get_or-reverse, set-append_left, set-append_right}
 use Rattle.std.proofs.Math.Seq.{drop-append_seam}
 use Rattle.std.specs.Prelude.{bytes_eq, if◌then◌else◌, slice_index_or, Option, Some, None, ℤ}
 use Rattle.c_tree.specs.Bare.{Name}

@@ -1,5 +1,5 @@
 -- What the code knows of a function that is called, and of the arguments of a call.
-use Rattle.std.specs.Prelude.{◌≡◌, ℕ, ◌+◌, ◌<◌, List, [], ◌∷◌, map, Option, Some, None, Result, Ok, Err, ℤ}
+use Rattle.std.specs.Prelude.{◌≡◌, ◌+◌, ◌<◌, List, [], ◌∷◌, map, Option, Some, None, Result, Ok, Err, ℤ}
 use Rattle.c_tree.specs.Bare.{Name}
 use Rattle.c_tree.specs.BareOf.{bare_top, bare_expr, bare_param, bare_stmts}
 use Rattle.c_tree.specs.Arithmetic.{and_then, convert}

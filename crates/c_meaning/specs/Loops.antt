@@ -1,5 +1,5 @@
 -- What a loop of the code stands for.
-use Rattle.std.specs.Prelude.{ℕ, ◌+◌, Option, Some, None, Bool, true, false}
+use Rattle.std.specs.Prelude.{ℕ, ◌+◌, Option, Bool, true, false}
 use Rattle.std.specs.Option.{option_map, option_copied}
 use Rattle.c_tree.specs.Bare.{Expr, MaybeStmt}
 use Rattle.c_tree.specs.BareOf.{bare_expr, bare_stmt, bare_stmts, maybe_stmt}

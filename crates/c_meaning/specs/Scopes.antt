@@ -1,6 +1,6 @@
 -- What is known at a place of a program.
-use Rattle.std.specs.Prelude.{ℕ, List, [], ◌∷◌, map, Option, Some, None, bytes_eq, if◌then◌else◌}
-use Rattle.c_tree.specs.Bare.{Name, Program}
+use Rattle.std.specs.Prelude.{List, [], ◌∷◌, map, Option, Some, None, bytes_eq, if◌then◌else◌}
+use Rattle.c_tree.specs.Bare.{Name}
 use Rattle.c_tree.specs.BareOf.{bare_top}
 use Rattle.c_tree.specs.declared.constant.TypedValue.{TypedValue}
 use Rattle.c_semantics.specs.Meaning.Expressions.{Define}

@@ -64,7 +64,6 @@ fn stopped(stop: Stop) -> Result<End, RunFault>
 }
 
 /// One statement.
-#[tactic(none)]
 #[cycle(run)]
 pub fn run_stmt<K: Sink>(
     scope: &Scope,
@@ -79,7 +78,10 @@ pub fn run_stmt<K: Sink>(
     match stmt {
         Stmt::Decl { ty, name, init, .. } => declare(scope, m, *ty, name, init),
         Stmt::Set {
-            target, op, value, ..
+            target,
+            op,
+            value,
+            ..
         } => Ok(set_to(scope, m, target, *op, value)),
         Stmt::Step { target, up, .. } => Ok(step_by(scope, m, target, *up)),
         Stmt::Print { value, .. } => print(scope, m, out, value),
@@ -114,7 +116,6 @@ pub fn run_stmt<K: Sink>(
 }
 
 /// Statements, one after another, up to the first that doesn't end `Next`.
-#[tactic(none)]
 #[cycle(run)]
 pub fn run_stmts<K: Sink>(
     scope: &Scope,
@@ -136,7 +137,6 @@ pub fn run_stmts<K: Sink>(
 }
 
 /// A block: what it declares goes with it.
-#[tactic(none)]
 #[cycle(run)]
 pub fn run_block<K: Sink>(
     scope: &Scope,
@@ -155,7 +155,6 @@ pub fn run_block<K: Sink>(
 }
 
 /// `if` (C11 6.8.4.1): the test is evaluated once.
-#[tactic(none)]
 #[cycle(run)]
 fn run_if<K: Sink>(
     scope: &Scope,
@@ -180,7 +179,6 @@ fn run_if<K: Sink>(
 }
 
 /// A `for` loop (C11 6.8.5.3): the scope of its head is a block round it.
-#[tactic(none)]
 #[cycle(run)]
 fn run_for<K: Sink>(
     scope: &Scope,
@@ -206,7 +204,6 @@ fn run_for<K: Sink>(
 }
 
 /// What a `for` begins with, and then its turns.
-#[tactic(none)]
 #[cycle(run)]
 fn run_head<K: Sink>(
     scope: &Scope,
@@ -227,7 +224,6 @@ fn run_head<K: Sink>(
 }
 
 /// A part of a `for` head.
-#[tactic(none)]
 #[cycle(run)]
 fn run_part<K: Sink>(
     scope: &Scope,
@@ -246,7 +242,6 @@ fn run_part<K: Sink>(
 }
 
 /// So many turns at most: the test is asked before each, and once more after the last.
-#[tactic(none)]
 #[cycle(run)]
 fn repeat<K: Sink>(
     scope: &Scope,
@@ -278,7 +273,6 @@ fn repeat<K: Sink>(
 }
 
 /// The turns of a `do` loop, whose first is due without a test.
-#[tactic(none)]
 #[cycle(run)]
 fn repeat_after<K: Sink>(
     scope: &Scope,
@@ -300,7 +294,6 @@ fn repeat_after<K: Sink>(
 }
 
 /// One turn; that of a `for` is counted, and ends with the head's last part.
-#[tactic(none)]
 #[cycle(run)]
 fn run_turn<K: Sink>(
     scope: &Scope,
@@ -323,7 +316,6 @@ fn run_turn<K: Sink>(
 }
 
 /// A call (C11 6.5.2.2): the body runs in a frame that holds the arguments, and then the caller's is put back.
-#[tactic(none)]
 #[cycle(run)]
 fn call<K: Sink>(
     scope: &Scope,

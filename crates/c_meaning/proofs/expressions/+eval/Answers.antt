@@ -1,5 +1,5 @@
 -- An element by its place, subscript by subscript.
-use Rattle.std.proofs.Common.{◌≡◌, ◌∙◌, sym, ap, refl, subst, ℕ, ◌+◌, ◌*◌, ◌<◌, ◌≤◌, List, ◌∷◌, drop, Ok, ℤ, w64, rules, arith}
+use Rattle.std.proofs.Common.{◌≡◌, ◌∙◌, sym, ap, subst, ◌+◌, ◌*◌, ◌<◌, ◌≤◌, List, drop, Ok, ℤ, w64, rules, arith}
 use Rattle.std.proofs.lemmas.Int.{to_z-of_z}
 use Rattle.std.specs.Prelude.{slice_index_or, slice_get}
 use Rattle.c_tree.specs.WellFormed.{WellFormedExpr}

@@ -1,4 +1,4 @@
-use Rattle.std.proofs.Common.{◌≡◌, ◌≤◌, ◌-◌, drop, length}
+use Rattle.std.proofs.Common.{◌≡◌, drop}
 use Rattle.c_tree.specs.BareOf.{bare_exprs}
 use Rattle.c_semantics.specs.Meaning.Expressions.{place}
 use Rattle.c_meaning.specs.Scopes.{env_of}

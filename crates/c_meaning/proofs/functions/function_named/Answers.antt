@@ -1,7 +1,7 @@
 -- The last item that is left is the function, or the others have it.
 use Rattle.std.proofs.Common.{◌≡◌, ◌∙◌, sym, ap, refl, subst, ◌-◌, Some, List, Option, true, false, rules, arith}
-use Rattle.std.specs.Prelude.{bytes_eq, map}
-use Rattle.c_tree.specs.BareOf.{bare_stmts, bare_param}
+use Rattle.std.specs.Prelude.{bytes_eq}
+use Rattle.c_tree.specs.BareOf.{bare_stmts}
 use Rattle.c_tree.specs.declared.tree.Param.{Param}
 use Rattle.c_tree.specs.declared.tree.Stmt.{Stmt}
 use Rattle.c_semantics.specs.Meaning.SimpleStatements.{Function}

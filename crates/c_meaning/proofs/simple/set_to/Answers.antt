@@ -1,5 +1,5 @@
 -- A trap leaves the state as it was.
-use Rattle.std.proofs.Common.{◌≡◌, ◌∙◌, sym}
+use Rattle.std.proofs.Common.{sym}
 use Rattle.c_tree.specs.BareOf.{bare_expr, bare_exprs}
 use Rattle.c_meaning.specs.Scopes.{env_of}
 use Rattle.c_meaning.proofs.Assignments.{set_err}

@@ -1,11 +1,10 @@
 -- Each statement runs as its meaning does, by the runs of its parts.
-use Rattle.std.proofs.Common.{◌≡◌, ◌<◌, ◌∙◌, sym, ap, refl, subst, map, ℕ, List, [], reverse, Option, Some, None, Ok, Err, true, false, rules, arith}
+use Rattle.std.proofs.Common.{◌≡◌, ◌<◌, ◌∙◌, sym, ap, refl, subst, map, List, [], reverse, Option, Ok, Err, true, arith}
 use Rattle.std.proofs.lemmas.Result.{err_from_is_err_and}
 use Rattle.std.specs.Option.{option_copied, option_map}
 use Rattle.c_tree.specs.Bare as b
-use Rattle.c_tree.specs.BareOf.{bare_top, bare_expr, bare_exprs, bare_stmt, bare_stmts, bare_head, bare_target, bare_directive, maybe_stmt}
+use Rattle.c_tree.specs.BareOf.{bare_top, bare_expr, bare_exprs, bare_stmt, bare_stmts, bare_head, bare_target, maybe_stmt}
 use Rattle.c_tree.specs.declared.tree.Expr.{Expr}
-use Rattle.c_tree.specs.declared.tree.ForHead.{out-ForHead}
 use Rattle.c_tree.specs.declared.tree.Stmt.{Stmt}
 use Rattle.c_tree.specs.WellFormed.{WellFormedExprs}
 use Rattle.c_semantics.specs.Meaning.SimpleStatements as meaning
@@ -15,7 +14,7 @@ use Rattle.c_meaning.specs.Functions.{Stops, function_of, stopped_as}
 use Rattle.c_meaning.specs.Loops.{next_of, test_of}
 use Rattle.c_meaning.specs.Running.{sunk}
 use Rattle.c_meaning.specs.Scopes.{env_of}
-use Rattle.c_meaning.specs.Runnable.{RunnableTops, RunnableHead, RunnablePart, RunnableStmt, RunnableStmts}
+use Rattle.c_meaning.specs.Runnable.{RunnableHead, RunnablePart, RunnableStmt, RunnableStmts}
 use Rattle.c_meaning.specs.Sizes.{stmt_size, stmts_size, part_size, head_size}
 use Rattle.c_meaning.proofs.ChoiceParts.{choice_test, choice_yes, choice_no, yes_smaller, no_smaller}
 use Rattle.c_meaning.proofs.EachKind.{run_as, decl_runs, set_runs, step_runs, input_runs, block_runs, block_faults, part_skips, part_runs, left_ends, if_traps, if_holds, else_runs, if_skips, while_ends, while_fails, do_ends, do_fails, head_goes, head_goes_on, head_stops, head_fails, for_runs, call_unknown, call_stops, call_ends, call_fails}
@@ -27,17 +26,11 @@ use Rattle.c_meaning.proofs.statements.+run.Goals as goal
 
 -- ---- calls
 
-pub call-function_named-requires : goal.call-function_named-requires
-call-function_named-requires g t c = c.requires.known
-
 pub call-returns-in_default : goal.call-returns-in_default
 call-returns-in_default g t c =
     let n = c.args.scope.now.bound in
     let p = map bare_top c.args.scope.now.items.now in
     call_unknown n p c.args.name.now (bare_exprs c.args.args.now) _ _ c.in_default.ensures.none
-
-pub call-arguments-requires-clause-known : goal.call-arguments-requires-clause-known
-call-arguments-requires-clause-known g t c = c.requires.known
 
 pub call-arguments-requires-clause-well_formed : goal.call-arguments-requires-clause-well_formed
 call-arguments-requires-clause-well_formed g t c =
@@ -78,9 +71,6 @@ call-returns g t c =
 pub repeat-each-init : goal.repeat-each-init
 repeat-each-init g t c = leads_same _ _ _
 
-pub repeat-head_holds-requires-clause-known : goal.repeat-head_holds-requires-clause-known
-repeat-head_holds-requires-clause-known g t c = c.requires.known
-
 pub repeat-head_holds-requires-clause-well_formed : goal.repeat-head_holds-requires-clause-well_formed
 repeat-head_holds-requires-clause-well_formed g t c = c.requires.runnable.test
 
@@ -105,9 +95,6 @@ repeat-returns-then-left-eq0 g t c =
     let l = c.args.repeated.now in
     c.each.invariant.follows _ _ _ (repeat_cut n p (test_of l) l.counts (bare_stmts l.body.now) (next_of l) c.each.m c.each.m _ (sunk (g.K.Sink.held c.args.out.now) (g.K.Sink.faults c.args.out.now)) c.each.left c.if-left-eq0.true (sym c.in-Ok-true.ensures ∙ ap Ok c.in-Ok-true.field-0-test))
 
-pub repeat-overflow_sub-left : goal.repeat-overflow_sub-left
-repeat-overflow_sub-left g t c = search rules
-
 pub repeat-run_turn-requires : goal.repeat-run_turn-requires
 repeat-run_turn-requires g t c =
     λ κs sub. (omega arith, (sub, (c.requires.known, c.requires.runnable)))
@@ -121,9 +108,6 @@ repeat-returns-in_err-end g t c =
     let holds = sym c.in-Ok-true.ensures ∙ ap Ok c.in-Ok-true.field-0-test in
     let q = err_from_is_err_and c.from_residual.result c.from_residual.ensures.1 in
     ran_fault c.from_residual.result c.in_err-end.field-0.0 q.0 q.1 q.2 (c.each.invariant.follows _ _ _ (repeat_fail n p (test_of l) l.counts (bare_stmts l.body.now) (next_of l) c.each.m c.run_turn.new.m _ _ c.each.left some holds _ c.in_err-end.ensures))
-
-pub repeat-each-smaller : goal.repeat-each-smaller
-repeat-each-smaller g t c = search rules
 
 pub repeat-each-preserved : goal.repeat-each-preserved
 repeat-each-preserved g t c =
@@ -162,9 +146,6 @@ repeat_after-returns-in_err-end g t c =
     let some : 0 < c.args.scope.now.bound = omega arith in
     let q = err_from_is_err_and c.from_residual.result c.from_residual.ensures.1 in
     ran_fault c.from_residual.result c.in_err-end.field-0.0 q.0 q.1 q.2 (after_fail n p (test_of l) l.counts (bare_stmts l.body.now) (next_of l) c.args.m.now c.run_turn.new.m _ _ n some _ c.in_err-end.ensures)
-
-pub repeat_after-overflow_sub-scope : goal.repeat_after-overflow_sub-scope
-repeat_after-overflow_sub-scope g t c = search rules
 
 pub repeat_after-repeat-requires : goal.repeat_after-repeat-requires
 repeat_after-repeat-requires g t c =
@@ -347,9 +328,6 @@ run_part-returns-in-Some g t c =
 
 -- ---- `if`
 
-pub run_if-holds-requires-clause-known : goal.run_if-holds-requires-clause-known
-run_if-holds-requires-clause-known g t c = c.requires.known
-
 pub run_if-holds-requires-clause-well_formed : goal.run_if-holds-requires-clause-well_formed
 run_if-holds-requires-clause-well_formed g t c =
     let e = bare_expr c.args.test.now in
@@ -413,9 +391,6 @@ run_if-returns-in-None g t c =
 pub run_stmts-each-init : goal.run_stmts-each-init
 run_stmts-each-init g t c = leads_same _ _ _
 
-pub run_stmts-offset_bounds-stmts-stmt-index : goal.run_stmts-offset_bounds-stmts-stmt-index
-run_stmts-offset_bounds-stmts-stmt-index g t c = search rules
-
 pub run_stmts-run_stmt-requires : goal.run_stmts-run_stmt-requires
 run_stmts-run_stmt-requires g t c =
     let xs = c.args.stmts.now in
@@ -442,9 +417,6 @@ run_stmts-returns-in_default g t c =
     let x = c.stmt-item.result in
     c.each.invariant.follows _ _ _ (stmts_stop n p xs i c.each.m c.run_stmt.new.m _ _ x c.each-test.true c.stmt-item.is c.in_ok-end.end c.in_default.not-Next c.in_ok-end.ensures)
 
-pub run_stmts-each-smaller : goal.run_stmts-each-smaller
-run_stmts-each-smaller g t c = search rules
-
 pub run_stmts-each-preserved : goal.run_stmts-each-preserved
 run_stmts-each-preserved g t c =
     let n = c.args.scope.now.bound in
@@ -462,17 +434,11 @@ run_stmts-returns g t c =
 
 -- ---- one statement
 
-pub run_stmt-declare-requires-clause-known : goal.run_stmt-declare-requires-clause-known
-run_stmt-declare-requires-clause-known g t c = c.requires.known
-
 pub run_stmt-declare-requires-clause-well_formed : goal.run_stmt-declare-requires-clause-well_formed
 run_stmt-declare-requires-clause-well_formed g t c =
     let is = bare_decl c.args.stmt.now c.in-Decl.ty c.in-Decl.name c.in-Decl.name_span c.in-Decl.init c.in-Decl.span c.in-Decl.is in
     let fits = subst (λ (a : b.Stmt). RunnableStmt a) is c.requires.runnable in
     fits
-
-pub run_stmt-set_to-requires-clause-known : goal.run_stmt-set_to-requires-clause-known
-run_stmt-set_to-requires-clause-known g t c = c.requires.known
 
 pub run_stmt-set_to-requires-clause-target : goal.run_stmt-set_to-requires-clause-target
 run_stmt-set_to-requires-clause-target g t c =
@@ -486,26 +452,17 @@ run_stmt-set_to-requires-clause-well_formed g t c =
     let fits = subst (λ (a : b.Stmt). RunnableStmt a) is c.requires.runnable in
     fits.1
 
-pub run_stmt-step_by-requires-clause-known : goal.run_stmt-step_by-requires-clause-known
-run_stmt-step_by-requires-clause-known g t c = c.requires.known
-
 pub run_stmt-step_by-requires-clause-target : goal.run_stmt-step_by-requires-clause-target
 run_stmt-step_by-requires-clause-target g t c =
     let is = bare_step c.args.stmt.now c.in-Step.target c.in-Step.up c.in-Step.span c.in-Step.is in
     let fits = subst (λ (a : b.Stmt). RunnableStmt a) is c.requires.runnable in
     fits
 
-pub run_stmt-print-requires-clause-known : goal.run_stmt-print-requires-clause-known
-run_stmt-print-requires-clause-known g t c = c.requires.known
-
 pub run_stmt-print-requires-clause-well_formed : goal.run_stmt-print-requires-clause-well_formed
 run_stmt-print-requires-clause-well_formed g t c =
     let is = bare_print c.args.stmt.now c.in-Print.value c.in-Print.span c.in-Print.is in
     let fits = subst (λ (a : b.Stmt). RunnableStmt a) is c.requires.runnable in
     fits
-
-pub run_stmt-take_input-requires-clause-known : goal.run_stmt-take_input-requires-clause-known
-run_stmt-take_input-requires-clause-known g t c = c.requires.known
 
 pub run_stmt-take_input-requires-clause-target : goal.run_stmt-take_input-requires-clause-target
 run_stmt-take_input-requires-clause-target g t c =

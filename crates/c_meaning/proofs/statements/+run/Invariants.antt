@@ -1,6 +1,6 @@
-use Rattle.std.proofs.Common.{ℕ, ◌+◌, drop, map, List}
+use Rattle.std.proofs.Common.{◌+◌, drop, map}
 use Rattle.std.specs.Option.{option_copied, option_map}
-use Rattle.c_tree.specs.Bare.{Program, for_}
+use Rattle.c_tree.specs.Bare.{for_}
 use Rattle.c_tree.specs.BareOf.{bare_top, bare_expr, bare_stmt, bare_stmts, bare_head, maybe_stmt}
 use Rattle.c_semantics.specs.Meaning.Runs.{repeat}
 use Rattle.c_semantics.specs.Meaning.SimpleStatements.{head_test}

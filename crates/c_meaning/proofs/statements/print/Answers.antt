@@ -1,5 +1,5 @@
 -- A trap prints nothing; else the line is written, or a first part of it.
-use Rattle.std.proofs.Common.{◌≡◌, subst, ℤ, w64, rules}
+use Rattle.std.proofs.Common.{subst, ℤ, w64, rules}
 use mir.Val.{SFits}
 use Rattle.outside_io.specs.Bytes.{Gains, GainsPrefix}
 use Rattle.std.proofs.lemmas.Int.{to_z-of_z}

@@ -1,5 +1,5 @@
 -- The variable that the name means has the number now.
-use Rattle.std.proofs.Common.{◌≡◌, ◌∙◌, sym, ap, refl, subst, ℕ, ◌+◌, ◌<◌, List, length, reverse, set, Some, ℤ, w64}
+use Rattle.std.proofs.Common.{◌≡◌, ◌∙◌, sym, ap, refl, subst, ℕ, ◌+◌, ◌<◌, length, reverse, set, Some, ℤ, w64}
 use Rattle.std.proofs.lemmas.Int.{to_z-of_z}
 use Rattle.c_semantics.specs.Meaning.State.{State, Var, look, store, with_frame, with_globals}
 use Rattle.c_semantics.specs.Meaning.SimpleStatements.{changed}
