@@ -3,10 +3,12 @@ pub mod Calls
 pub mod Growth
 pub mod ChoiceParts
 pub mod EachKind
+pub mod InitialCells
 pub mod LineText
 pub mod Lists
 pub mod Nodes
 pub mod Places
+pub mod Products
 pub mod RunnableParts
 pub mod Running
 pub mod Scopes

@@ -80,5 +80,8 @@ head_is h i e k is_i is_e is_k =
     ∙ ap (λ x. b.head (maybe_stmt (option_map bare_stmt i)) (option_map bare_expr e) (maybe_stmt (option_map bare_stmt x))) (sym is_k)))
 
 module _ (expr : Expr) where
+  pub bare_read : (x : Name) (sp : Span) → expr ≡ ve.Read x sp → bare_expr expr ≡ b.read x
+  bare_read x sp is = ap bare_expr is ∙ (ap bare_expr (sym (ve.rolls-Read x sp)) ∙ fold-roll-Expr b.Expr expr_layer (se.Read x sp))
+
   pub bare_item : (x : Name) (subs : List Expr) (sp : Span) → expr ≡ ve.Item x subs sp → bare_expr expr ≡ b.item x (bare_exprs subs)
   bare_item x subs sp is = ap bare_expr is ∙ (ap bare_expr (sym (ve.rolls-Item x subs sp)) ∙ fold-roll-Expr b.Expr expr_layer (se.Item x subs sp))

@@ -27,7 +27,7 @@ less_product (suc p) d at i h k =
     let le : at ≤ p = omega arith in
     omega (arith, mul-le-mul_right d le, suc-mul p d)
 
-head_fits : (p : ℕ) (dims : List ℕ) → FitFrom p dims → p < 2 ^ 63
+pub head_fits : (p : ℕ) (dims : List ℕ) → FitFrom p dims → p < 2 ^ 63
 head_fits p [] h = h
 head_fits p (d ∷ dims) h = h.0
 

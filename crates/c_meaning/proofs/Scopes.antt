@@ -1,7 +1,7 @@
 -- What is known at a place: the latest define of a name, found from the end.
 use Rattle.std.proofs.Common.{◌≡◌, ◌∙◌, sym, ap, refl, ℕ, ◌+◌, ◌-◌, ◌<◌, ◌≤◌, Bool, true, false, List, [], ◌∷◌, ◌++◌, length, map, take, Option, Some, None, Result, Ok, Err, ℤ, arith}
 use Rattle.std.proofs.lemmas.List.{take_all}
-use Rattle.std.specs.Prelude.{slice_index_or, bytes_eq, if◌then◌else◌}
+use Rattle.std.specs.Prelude.{slice_index_or, bytes_eq, if◌then◌else◌, is_some}
 use Rattle.c_tree.specs.Bare.{Name, Top, Program}
 use Rattle.c_tree.specs.BareOf.{bare_top}
 use Rattle.c_tree.specs.declared.arithmetic.Trap.{Trap}
@@ -14,7 +14,7 @@ use Rattle.c_tree.specs.declared.tree.Item.TheVariants.{Define, Extern, Global, 
 use Rattle.c_tree.specs.declared.tree.Ty.{Ty}
 use Rattle.c_tree.specs.declared.tree.Ty.TheVariants.{Int}
 use Rattle.c_semantics.specs.Meaning.Expressions as meaning
-use Rattle.c_semantics.specs.Meaning.Expressions.{define_type, define_value}
+use Rattle.c_semantics.specs.Meaning.Expressions.{define_type, define_value, is_define}
 use Rattle.c_semantics.specs.Meaning.SimpleStatements.{Env}
 use Rattle.c_semantics.specs.Meaning.Programs.{env_after, env_with, no_env}
 use Rattle.c_meaning.specs.Scopes.{constant_in}
@@ -108,4 +108,12 @@ pub no_define_value : (ds : List meaning.Define) (x : Name) → constant_in ds x
 no_define_value [] x h = refl
 no_define_value (d ∷ ds) x h = value_not_here (bytes_eq x d.name) d ds x (no_define_value ds x) h
 
-pub ruleset constants = (define_type_is, define_value_is, no_define_type, no_define_value)
+is_here : (b : Bool) (d : meaning.Define) (ds : List meaning.Define) (x : Name) → is_some (constant_in ds x) ≡ is_define ds x → is_some (if b then Some (record { ty = d.ty; value = d.value }) else constant_in ds x) ≡ (if b then true else is_define ds x)
+is_here true d ds x rest = refl
+is_here false d ds x rest = rest
+
+pub constant_is_define : (ds : List meaning.Define) (x : Name) → is_some (constant_in ds x) ≡ is_define ds x
+constant_is_define [] x = refl
+constant_is_define (d ∷ ds) x = is_here (bytes_eq x d.name) d ds x (constant_is_define ds x)
+
+pub ruleset constants = (constant_is_define, define_type_is, define_value_is, no_define_type, no_define_value)

@@ -1,5 +1,6 @@
 pub mod Choices
 pub mod Functions
+pub mod Globals
 pub mod Ends
 pub mod Loops
 pub mod Machines

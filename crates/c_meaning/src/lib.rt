@@ -4,6 +4,7 @@
 
 pub mod expressions;
 pub mod functions;
+pub mod globals;
 pub mod lines;
 pub mod loops;
 pub mod machine;
