@@ -32,6 +32,9 @@ pub tops_before : (xs : List Item) (i : ℕ) (x : Item) → i < length xs → x 
 tops_before xs i x h at =
     ap (map bare_top) (take_more xs i x h) ∙ (map-append bare_top (take i xs) (slice_index_or xs i x ∷ []) ∙ ap (λ y. map bare_top (take i xs) ++ bare_top y ∷ []) (sym at))
 
+pub tops_end : (xs : List Item) (i : ℕ) → length xs ≤ i → map bare_top (drop i xs) ≡ []
+tops_end xs i h = ap (map bare_top) (drop_all i xs h)
+
 abbrev Good : List Item → Type 0
 Good xs = RunnableTops (map bare_top xs)
 
@@ -71,3 +74,5 @@ pub body_smaller : (xs : List Item) (i : ℕ) (x : Item) → i < length xs → x
 body_smaller [] i x h at = absurd (omega arith)
 body_smaller (y ∷ ys) zero x h at = subst (λ z. 0 + top_size (bare_top z) ≤ top_size (bare_top y) + tops_size (map bare_top ys)) (sym at) (omega arith)
 body_smaller (y ∷ ys) (suc i) x h at = let less : tops_size (map bare_top (take i ys)) + top_size (bare_top x) ≤ tops_size (map bare_top ys) = body_smaller ys i x (omega arith) at in omega arith
+
+pub ruleset statements = (stmts_more, stmts_end, tops_more, tops_end)

@@ -26,8 +26,8 @@ mutual
   runnable_stmt (while_ e a) w h = (w.0, runnable_stmts a w.1 h)
   runnable_stmt (do_ a e) w h = (runnable_stmts a w.0 h, w.1)
   runnable_stmt (for_ (head i e next) a) w h =
-      let rest = second_true (is_plain_part i) (is_plain_part next && are_plain_stmts a) h in
-      ((runnable_part i w.0.1 (first_true (is_plain_part i) (is_plain_part next && are_plain_stmts a) h), w.0.2, runnable_part next w.0.4 (first_true (is_plain_part next) (are_plain_stmts a) rest)), runnable_stmts a w.1 (second_true (is_plain_part next) (are_plain_stmts a) rest))
+      let parts = first_true (is_plain_part i && is_plain_part next) (are_plain_stmts a) h in
+      ((runnable_part i w.0.1 (first_true (is_plain_part i) (is_plain_part next) parts), w.0.2, runnable_part next w.0.4 (second_true (is_plain_part i) (is_plain_part next) parts)), runnable_stmts a w.1 (second_true (is_plain_part i && is_plain_part next) (are_plain_stmts a) h))
   runnable_stmt (block a) w h = runnable_stmts a w h
   runnable_stmt break_ w h = tt
   runnable_stmt continue_ w h = tt

@@ -2,6 +2,7 @@
 //! is defined.
 #![tactic(auto)]
 
+pub mod directives;
 pub mod expressions;
 pub mod functions;
 pub mod globals;
