@@ -1,5 +1,5 @@
 -- What an array holds at the start, by its dimensions in the code's tree.
-use Rattle.std.proofs.Common.{◌≡◌, ◌∙◌, sym, ap, refl, ℕ, List, [], ◌∷◌, map, Option, Result, Ok, Err, Bool, true, false}
+use Rattle.std.proofs.Common.{◌≡◌, ◌∙◌, sym, ap, refl, List, [], ◌∷◌, map, Option, Result, Ok, Err, Bool, true, false}
 use Rattle.std.specs.Prelude.{◌↔◌, IsTrue, IfOk}
 use Rattle.c_tree.specs.Bare as b
 use Rattle.c_tree.specs.Bare.{expr_list}

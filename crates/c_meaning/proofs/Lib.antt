@@ -4,6 +4,7 @@ pub mod Growth
 pub mod ChoiceParts
 pub mod EachKind
 pub mod InitialCells
+pub mod Items
 pub mod LineText
 pub mod Lists
 pub mod Nodes

@@ -150,7 +150,13 @@ pub fn begin(scope: &Scope, m: &mut Machine, item: &Item) -> Result<(), AllocErr
     ensures { OnOk result (m.new ≡ with_globals (programs.globals_with (env_of scope.now).defines m.old.globals (bare_top item.now)) m.old) }
 {
     match item {
-        Item::Global { ty, name, dims, init, .. } => {
+        Item::Global {
+            ty,
+            name,
+            dims,
+            init,
+            ..
+        } => {
             let cell = initial(m.alloc(), scope, *ty, dims, init)?;
             m.add_global(name, cell)
         }

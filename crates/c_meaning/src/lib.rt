@@ -6,6 +6,7 @@ pub mod directives;
 pub mod expressions;
 pub mod functions;
 pub mod globals;
+pub mod interpret;
 pub mod lines;
 pub mod loops;
 pub mod machine;

@@ -1,5 +1,5 @@
 -- A name is a constant where it is a define.
-use Rattle.std.proofs.Common.{◌≡◌, ◌∙◌, sym, ap}
+use Rattle.std.proofs.Common.{◌∙◌, sym, ap}
 use Rattle.std.specs.Prelude.{is_some}
 use Rattle.c_semantics.specs.Meaning.Expressions.{only_constants}
 use Rattle.c_meaning.specs.Scopes.{env_of}

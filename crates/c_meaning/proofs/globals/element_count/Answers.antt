@@ -1,5 +1,5 @@
 -- A count beyond 63 bits comes of dimensions that don't fit.
-use Rattle.std.proofs.Common.{◌≡◌, sym, subst, ℕ, ◌+◌, ◌*◌, ◌<◌, ◌^◌, Option, drop, rules, arith}
+use Rattle.std.proofs.Common.{◌≡◌, sym, subst, ℕ, ◌+◌, Option, drop, rules, arith}
 use Rattle.std.specs.Prelude.{slice_index_or, IfNone}
 use Rattle.c_meaning.specs.Variables.{FitFrom}
 use Rattle.c_meaning.proofs.Products.{Counted, count_more, count_over}
