@@ -8,8 +8,9 @@ ghost use Rattle.pragma_grammar.specs.DirectiveStands.{KeptOpen, asked_of, expr_
 ghost use Rattle.pragma_grammar.specs.DirectiveTurns.{TakesTurn, IsLetterRead, kept_expr, next_of, phrase_of};
 
 use crate::blame::blamed;
+use crate::directive_arguments::{take, wants_letter};
 use crate::directive_kept::Kept;
-use crate::directive_reading::{step, take, wants_letter};
+use crate::directive_reading::step;
 use crate::directive_state::{Asked, Held, Mark, Move, Part, State, mark_of, word_of};
 use crate::expression::read_expr;
 use crate::phrase::{ParseFault, Phrase};

@@ -8,6 +8,7 @@ ghost use Rattle.pragma_grammar.specs.DirectiveTrees.{add_item, add_count};
 ghost use Rattle.pragma_grammar.specs.DirectiveStands.{pushed, clause_at, expr_of, exprs_of, counts_of, count_of, clauses_of, clause_kind_of, items_of, item_of, directive_of};
 ghost use Rattle.pragma_grammar.specs.Trees.{join_last};
 
+use crate::operand::{MOST, greater};
 use c_tree::items::Items;
 use c_tree::name::Name;
 use c_tree::tree::{
@@ -15,9 +16,6 @@ use c_tree::tree::{
     ExprList, Kind, Span,
 };
 use std::alloc::{AllocError, Global};
-
-/// The greatest height of a tree that is kept.
-const MOST: u64 = 256;
 
 /// A tree of a height of at most 256 (of a list or a clause, the greatest height of what stands directly in it), or the
 /// place of the first subtree above it.
@@ -54,11 +52,7 @@ fn push_after<T: Drop>(
             trees.push(tree)?;
             Ok(Kept::Whole {
                 tree: trees,
-                height: if height < its_height {
-                    its_height
-                } else {
-                    height
-                },
+                height: greater(height, its_height),
             })
         }
     }
@@ -165,11 +159,7 @@ pub fn looprange(first: Kept<Expr>, count: Kept<Expr>) -> Kept<ClauseKind>
             Kept::Deep(place) => Kept::Deep(place),
             Kept::Whole { tree, height } => Kept::Whole {
                 tree: ClauseKind::LoopRange(first, tree),
-                height: if first_height < height {
-                    height
-                } else {
-                    first_height
-                },
+                height: greater(first_height, height),
             },
         },
     }
@@ -220,11 +210,7 @@ pub fn apply(
                     indices,
                     items,
                 },
-                height: if indices_height < height {
-                    height
-                } else {
-                    indices_height
-                },
+                height: greater(indices_height, height),
             },
         },
     }

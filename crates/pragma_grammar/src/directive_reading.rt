@@ -1,36 +1,22 @@
 //! The automaton that reads directives: what a token does to the open `apply` clauses, which stand in one list.
 
-ghost use Rattle.std.specs.Prelude.{◌≡◌, [], List, IfOk};
+ghost use Rattle.std.specs.Prelude.{◌≡◌, [], List, Some, IfOk};
 ghost use Rattle.c_tree.specs.Bare.{Name};
-ghost use Rattle.c_tree.specs.Placed as placed;
-ghost use Rattle.pragma_grammar.specs.Symbols.{spanning};
 ghost use Rattle.pragma_grammar.specs.DirectiveMachine as machine;
-ghost use Rattle.pragma_grammar.specs.DirectiveKept.{keeps, kept, both, add_kept};
+ghost use Rattle.pragma_grammar.specs.DirectiveKept.{keeps, both};
 ghost use Rattle.pragma_grammar.specs.DirectiveTrees.{add_item};
 ghost use Rattle.pragma_grammar.specs.Words.{is_nothing, kind_of};
-ghost use Rattle.pragma_grammar.specs.DirectiveStands.{KeptOpen, marked, part_of, open_of, opens, lists_of, asked_of, held_of, stands, came, expr_of, exprs_of, counts_of, clause_kind_of, directive_of, item_of, step};
+ghost use Rattle.pragma_grammar.specs.DirectiveStands.{KeptOpen, marked, part_of, open_of, opens, stands, came, exprs_of, directive_of, item_of, step};
 
-use crate::directive_kept::{
-    Kept, acts, add_clause, add_count, add_expr, add_item, apply, counts, directive, factor, given,
-    looprange, permutation, plain, sizes,
-};
-use crate::directive_state::{Asked, Held, Lists, Mark, Move, Open, Part, State};
+use crate::directive_arguments::{added, first_element, have_step, no_exprs, want_step};
+use crate::directive_kept::{Kept, acts, add_clause, add_item, apply, directive, plain};
+use crate::directive_state::{Asked, Lists, Mark, Move, Open, Part, State};
+use crate::operand::spanning;
 use crate::words::{ClauseWord, clause_of, is_nothing, kind_of};
 use c_tree::items::Items;
 use c_tree::name::Name;
-use c_tree::tree::{
-    ApplyItem, ClauseKind, Count, CountList, Directive, Expr, ExprList, Kind, Span,
-};
+use c_tree::tree::{ApplyItem, ClauseKind, Directive, ExprList, Kind, Span};
 use std::alloc::{AllocError, Global};
-
-fn spanning(first: Span, last: Span) -> Span
-    ensures { result ≡ spanning first last }
-{
-    Span {
-        start: first.start,
-        end: last.end,
-    }
-}
 
 fn new_part(alloc: Global, kind: Kind, at: Span) -> Part
     ensures { part_of result ≡ machine.new_part keeps kind at }
@@ -42,15 +28,6 @@ fn new_part(alloc: Global, kind: Kind, at: Span) -> Part
             tree: Items::new(alloc),
             height: 0,
         },
-    }
-}
-
-fn no_exprs(alloc: Global) -> Kept<ExprList>
-    ensures { exprs_of result ≡ kept 0 placed.no_exprs }
-{
-    Kept::Whole {
-        tree: Items::new(alloc),
-        height: 0,
     }
 }
 
@@ -81,25 +58,6 @@ fn made(part: Part, last: Span) -> Kept<Directive>
 {
     let span = spanning(part.at, last);
     directive(part.kind, part.clauses, span)
-}
-
-/// A whole clause, at `span`.
-fn added(part: Part, kind: Kept<ClauseKind>, span: Span) -> Result<Move, AllocError>
-    ensures { IfOk result (λ m. (k : List KeptOpen) → came m k ≡ machine.added keeps (part_of part) (add_kept (part_of part).clauses (clause_kind_of kind) span) span k) }
-{
-    let Part {
-        kind: name,
-        at,
-        clauses,
-    } = part;
-    Ok(Move::Leads(State::Clauses {
-        part: Part {
-            kind: name,
-            at,
-            clauses: add_clause(clauses, kind, span)?,
-        },
-        last: span,
-    }))
 }
 
 /// The `apply` clause is closed at `place`.
@@ -143,14 +101,8 @@ fn word_read(alloc: Global, word: ClauseWord, at: Span, part: Part) -> Result<Mo
         ClauseWord::Full => return added(part, plain(ClauseKind::Full), at),
         ClauseWord::Partial => return Ok(Move::Leads(State::Partial { at, part })),
         ClauseWord::Apply => return Ok(Move::Leads(State::ApplyWord { at, part })),
-        ClauseWord::Sizes => Asked::Element {
-            list: Lists::Sizes,
-            before: no_exprs(alloc),
-        },
-        ClauseWord::Permutation => Asked::Element {
-            list: Lists::Permutation,
-            before: no_exprs(alloc),
-        },
+        ClauseWord::Sizes => first_element(alloc, Lists::Sizes),
+        ClauseWord::Permutation => first_element(alloc, Lists::Permutation),
         ClauseWord::Counts => Asked::Count {
             before: Kept::Whole {
                 tree: Items::new(alloc),
@@ -245,156 +197,6 @@ fn begin_directive(alloc: Global, kind: Option<Kind>, at: Span) -> Move
             last: at,
         }),
         None => Move::Stuck,
-    }
-}
-
-/// The token after a whole element of a list.
-fn list_step(
-    list: Lists,
-    exprs: Kept<ExprList>,
-    at: Span,
-    part: Part,
-    mark: Mark,
-    place: Span,
-) -> Result<Move, AllocError>
-    ensures { IfOk result (λ m. (x : Name) (k : List KeptOpen) → came m k ≡ machine.list_step keeps (lists_of list) (exprs_of exprs) at (part_of part) k (marked mark x place)) }
-{
-    match mark {
-        Mark::Comma => Ok(Move::Leads(State::Wanting {
-            asked: Asked::Element {
-                list,
-                before: exprs,
-            },
-            at,
-            part,
-        })),
-        Mark::Close => end_list(list, exprs, at, part, place),
-        Mark::Name | Mark::Open | Mark::Colon | Mark::Fill | Mark::LineEnd | Mark::Other => Ok(
-            Move::Stuck,
-        ),
-    }
-}
-
-/// The parenthesis that closes a list.
-fn end_list(
-    list: Lists,
-    exprs: Kept<ExprList>,
-    at: Span,
-    part: Part,
-    place: Span,
-) -> Result<Move, AllocError>
-    ensures { IfOk result (λ m. (k : List KeptOpen) → came m k ≡ machine.end_list keeps (lists_of list) (exprs_of exprs) place at (part_of part) k) }
-{
-    match list {
-        Lists::Sizes => added(part, sizes(exprs), spanning(at, place)),
-        Lists::Permutation => added(part, permutation(exprs), spanning(at, place)),
-        Lists::Indices(modifier) => Ok(Move::Leads(State::Indexed {
-            modifier,
-            indices: exprs,
-            at,
-            part,
-        })),
-    }
-}
-
-/// The token after a whole count.
-fn count_step(
-    before: Kept<CountList>,
-    at: Span,
-    part: Part,
-    mark: Mark,
-    place: Span,
-) -> Result<Move, AllocError>
-    ensures { IfOk result (λ m. (x : Name) (k : List KeptOpen) → came m k ≡ machine.count_step keeps (counts_of before) at (part_of part) k (marked mark x place)) }
-{
-    match mark {
-        Mark::Comma => Ok(Move::Leads(State::Wanting {
-            asked: Asked::Count { before },
-            at,
-            part,
-        })),
-        Mark::Close => added(part, counts(before), spanning(at, place)),
-        Mark::Name | Mark::Open | Mark::Colon | Mark::Fill | Mark::LineEnd | Mark::Other => Ok(
-            Move::Stuck,
-        ),
-    }
-}
-
-/// The token after the first expression of `looprange`.
-fn first_step(first: Kept<Expr>, at: Span, part: Part, mark: Mark, place: Span) -> Move
-    ensures { (x : Name) (k : List KeptOpen) → came result k ≡ machine.first_step keeps (expr_of first) at (part_of part) k (marked mark x place) }
-{
-    match mark {
-        Mark::Comma => Move::Leads(State::Wanting {
-            asked: Asked::RangeCount { first },
-            at,
-            part,
-        }),
-        Mark::Name
-        | Mark::Open
-        | Mark::Close
-        | Mark::Colon
-        | Mark::Fill
-        | Mark::LineEnd
-        | Mark::Other => Move::Stuck,
-    }
-}
-
-/// The token after the second expression of `looprange`.
-fn range_step(
-    first: Kept<Expr>,
-    count: Kept<Expr>,
-    at: Span,
-    part: Part,
-    mark: Mark,
-    place: Span,
-) -> Result<Move, AllocError>
-    ensures { IfOk result (λ m. (x : Name) (k : List KeptOpen) → came m k ≡ machine.range_step keeps (expr_of first) (expr_of count) at (part_of part) k (marked mark x place)) }
-{
-    match mark {
-        Mark::Close => added(part, looprange(first, count), spanning(at, place)),
-        Mark::Name
-        | Mark::Open
-        | Mark::Comma
-        | Mark::Colon
-        | Mark::Fill
-        | Mark::LineEnd
-        | Mark::Other => Ok(Move::Stuck),
-    }
-}
-
-/// The token after the factor of `partial`.
-fn factor_step(
-    value: Kept<Expr>,
-    at: Span,
-    part: Part,
-    mark: Mark,
-    place: Span,
-) -> Result<Move, AllocError>
-    ensures { IfOk result (λ m. (x : Name) (k : List KeptOpen) → came m k ≡ machine.factor_step keeps (expr_of value) at (part_of part) k (marked mark x place)) }
-{
-    match mark {
-        Mark::Close => added(part, factor(value), spanning(at, place)),
-        Mark::Name
-        | Mark::Open
-        | Mark::Comma
-        | Mark::Colon
-        | Mark::Fill
-        | Mark::LineEnd
-        | Mark::Other => Ok(Move::Stuck),
-    }
-}
-
-/// The token after a whole expression, or after `omp_fill`.
-fn have_step(held: Held, at: Span, part: Part, mark: Mark, place: Span) -> Result<Move, AllocError>
-    ensures { IfOk result (λ m. (x : Name) (k : List KeptOpen) → came m k ≡ machine.have_step keeps (held_of held) at (part_of part) k (marked mark x place)) }
-{
-    match held {
-        Held::Elements { list, exprs } => list_step(list, exprs, at, part, mark, place),
-        Held::Counted { counts } => count_step(counts, at, part, mark, place),
-        Held::First { first } => Ok(first_step(first, at, part, mark, place)),
-        Held::Range { first, count } => range_step(first, count, at, part, mark, place),
-        Held::Factored { factor } => factor_step(factor, at, part, mark, place),
     }
 }
 
@@ -500,10 +302,7 @@ fn first_name_step(
             outer: new_open(alloc, at, part, Some(name), no_exprs(alloc)),
         })),
         Mark::Open => Ok(Move::Leads(State::Wanting {
-            asked: Asked::Element {
-                list: Lists::Indices(name),
-                before: no_exprs(alloc),
-            },
+            asked: first_element(alloc, Lists::Indices(name)),
             at,
             part,
         })),
@@ -523,9 +322,11 @@ fn first_name_step(
     }
 }
 
-fn start_step(alloc: Global, mark: Mark, word: &[u8], place: Span) -> Move
-    ensures { came result [] ≡ machine.start_step keeps (marked mark word.now place) }
+/// The token where the directive's name is wanted.
+fn start_step(alloc: Global, stack: &mut Vec<Open>, mark: Mark, word: &[u8], place: Span) -> Move
+    ensures { came result (opens stack.new.items) ≡ machine.start_step keeps (marked mark word.now place) }
 {
+    stack.clear();
     match mark {
         Mark::Name => begin_directive(alloc, kind_of(word), place),
         Mark::Open
@@ -538,16 +339,18 @@ fn start_step(alloc: Global, mark: Mark, word: &[u8], place: Span) -> Move
     }
 }
 
-/// The token where a clause is wanted.
+/// The token after a comma in the outermost directive, where a clause is wanted.
 fn word_step(
     alloc: Global,
+    stack: &mut Vec<Open>,
     part: Part,
     mark: Mark,
     word: &[u8],
     place: Span,
 ) -> Result<Move, AllocError>
-    ensures { IfOk result (λ m. (k : List KeptOpen) → came m k ≡ machine.word_step keeps (part_of part) k (marked mark word.now place)) }
+    ensures { IfOk result (λ m. came m (opens stack.new.items) ≡ machine.word_step keeps (part_of part) [] (marked mark word.now place)) }
 {
+    stack.clear();
     match mark {
         Mark::Name => clause_word(alloc, clause_of(word), place, part),
         Mark::Open
@@ -590,6 +393,21 @@ fn expect_colon(next: State, mark: Mark) -> Move
     }
 }
 
+/// The token after the indices of a modifier.
+fn indexed_step(
+    alloc: Global,
+    modifier: Name,
+    indices: Kept<ExprList>,
+    at: Span,
+    part: Part,
+    mark: Mark,
+) -> Move
+    ensures { (x : Name) (place : Span) (k : List KeptOpen) → came result k ≡ machine.expect_colon keeps (machine.item (machine.new_open keeps at (part_of part) (Some modifier) (exprs_of indices)) k) (marked mark x place) }
+{
+    let outer = new_open(alloc, at, part, Some(modifier), indices);
+    expect_colon(State::Item { outer }, mark)
+}
+
 /// The token after `partial`.
 fn partial_step(
     alloc: Global,
@@ -628,59 +446,6 @@ fn partial_step(
             };
             after_clause(alloc, stack, part, at, mark, word, place)
         }
-    }
-}
-
-/// `omp_fill`, where a count is wanted.
-fn fill_step(
-    before: Kept<CountList>,
-    at: Span,
-    part: Part,
-    mark: Mark,
-    place: Span,
-) -> Result<Move, AllocError>
-    ensures { IfOk result (λ m. (x : Name) (k : List KeptOpen) → came m k ≡ machine.fill_step keeps (counts_of before) at (part_of part) k (marked mark x place)) }
-{
-    match mark {
-        Mark::Fill => {
-            let counts = add_count(
-                before,
-                Kept::Whole {
-                    tree: Count::Fill(place),
-                    height: 0,
-                },
-            )?;
-            Ok(Move::Leads(State::Having {
-                held: Held::Counted { counts },
-                at,
-                part,
-            }))
-        }
-        Mark::Name
-        | Mark::Open
-        | Mark::Close
-        | Mark::Comma
-        | Mark::Colon
-        | Mark::LineEnd
-        | Mark::Other => Ok(Move::Stuck),
-    }
-}
-
-/// A token where an expression is wanted, and that is read for itself.
-fn want_step(
-    asked: Asked,
-    at: Span,
-    part: Part,
-    mark: Mark,
-    place: Span,
-) -> Result<Move, AllocError>
-    ensures { IfOk result (λ m. (x : Name) (k : List KeptOpen) → came m k ≡ machine.want_step keeps (asked_of asked) at (part_of part) k (marked mark x place)) }
-{
-    match asked {
-        Asked::Count { before } => fill_step(before, at, part, mark, place),
-        Asked::Element { .. } | Asked::RangeFirst | Asked::RangeCount { .. } | Asked::Factor => Ok(
-            Move::Stuck,
-        ),
     }
 }
 
@@ -747,15 +512,9 @@ pub fn step(
     ensures { IfOk result (λ m. came m (opens stack.new.items) ≡ step (stands state (opens stack.old.items)) (marked mark word.now place)) }
 {
     match state {
-        State::Start => {
-            stack.clear();
-            Ok(start_step(alloc, mark, word, place))
-        }
+        State::Start => Ok(start_step(alloc, stack, mark, word, place)),
         State::Clauses { part, last } => after_clause(alloc, stack, part, last, mark, word, place),
-        State::Comma { part } => {
-            stack.clear();
-            word_step(alloc, part, mark, word, place)
-        }
+        State::Comma { part } => word_step(alloc, stack, part, mark, word, place),
         State::Opening { asked, at, part } => Ok(expect_open(
             State::Wanting { asked, at, part },
             mark,
@@ -769,14 +528,7 @@ pub fn step(
             indices,
             at,
             part,
-        } => {
-            Ok(expect_colon(
-                State::Item {
-                    outer: new_open(alloc, at, part, Some(modifier), indices),
-                },
-                mark,
-            ))
-        }
+        } => Ok(indexed_step(alloc, modifier, indices, at, part, mark)),
         State::Applying { at, part } => applying_step(alloc, at, part, mark, word, place),
         State::FirstName {
             name,
@@ -786,43 +538,5 @@ pub fn step(
         } => { first_name_step(alloc, stack, name, name_at, at, part, mark, word, place) }
         State::Item { outer } => item_step(alloc, stack, outer, mark, word, place),
         State::ItemRead { outer } => item_end(outer, mark, place),
-    }
-}
-
-/// What a whole expression does, where one is wanted.
-pub fn take(asked: Asked, expr: Kept<Expr>) -> Result<Held, AllocError>
-    ensures { IfOk result (λ held. held_of held ≡ machine.take keeps (asked_of asked) (expr_of expr)) }
-{
-    match asked {
-        Asked::Element { list, before } => Ok(Held::Elements {
-            list,
-            exprs: add_expr(before, expr)?,
-        }),
-        Asked::Count { before } => Ok(Held::Counted {
-            counts: add_count(before, given(expr))?,
-        }),
-        Asked::RangeFirst => Ok(Held::First { first: expr }),
-        Asked::RangeCount { first } => Ok(Held::Range { first, count: expr }),
-        Asked::Factor => Ok(Held::Factored { factor: expr }),
-    }
-}
-
-/// Is an expression read, where one is wanted? Only `omp_fill` among counts is not one.
-pub fn wants_letter(asked: &Asked, mark: Mark) -> bool
-    ensures { (x : Name) (place : Span) → result ≡ machine.wants_letter keeps (asked_of asked.now) (marked mark x place) }
-{
-    match asked {
-        Asked::Count { .. } => match mark {
-            Mark::Fill => false,
-            Mark::Name
-            | Mark::Open
-            | Mark::Close
-            | Mark::Comma
-            | Mark::Colon
-            | Mark::LineEnd
-            | Mark::Other => true,
-        },
-        Asked::Element { .. } | Asked::RangeFirst | Asked::RangeCount { .. } | Asked::Factor =>
-            true,
     }
 }

@@ -3,6 +3,7 @@
 
 mod blame;
 pub mod directive;
+mod directive_arguments;
 mod directive_kept;
 mod directive_reading;
 mod directive_state;

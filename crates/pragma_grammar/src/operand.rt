@@ -14,7 +14,7 @@ use c_tree::tree::{BinOp, Expr, ExprList, Span, Ty, UnOp};
 use std::alloc::{AllocError, Global};
 
 /// The greatest height of a tree that is kept.
-const MOST: u64 = 256;
+pub const MOST: u64 = 256;
 
 /// A tree of a height of at most 256, or the place of the first subtree above it.
 #[derive(Drop)]
@@ -30,6 +30,7 @@ pub enum Subscripts {
     Deep(u64),
 }
 
+/// From the first token to the last one.
 pub fn spanning(first: Span, last: Span) -> Span
     ensures { result ≡ spanning first last }
 {
@@ -53,7 +54,8 @@ fn node(tree: Expr, below: u64, span: Span) -> Operand
     }
 }
 
-fn greater(a: u64, b: u64) -> u64
+/// The greater of two heights.
+pub fn greater(a: u64, b: u64) -> u64
     ensures { result ≡ max a b }
 {
     if a < b { b } else { a }

@@ -1,20 +1,11 @@
 //! Heights of expressions around the limit of 256, and what costs no height.
 
-use super::read::{read_at, tokens_of};
+use super::nest::{Nest, nested, show_height};
+use super::read::{expr_at, tokens_of};
 use super::show::show_fault;
-use crate::phrase::Phrase;
-use c_tree::tree::Expr;
-use std::alloc::{AllocError, Global};
+use std::alloc::Global;
 use std::process::Abort;
 use std::test::Fail;
-
-/// A text made of `before` a number of times, `middle`, and `after` as often.
-#[derive(Clone, Copy)]
-struct Nest {
-    before: &'static str,
-    middle: &'static str,
-    after: &'static str,
-}
 
 /// For each kind of node a text of a given depth, with the answer where 258 nodes stand in one another.
 const NESTS: [(&str, &str, &str, &str); 7] = [
@@ -27,45 +18,11 @@ const NESTS: [(&str, &str, &str, &str); 7] = [
     ("1+(", "1", ")", "deep 3"),
 ];
 
-fn repeat(text: &mut String, part: &str, count: usize) -> Result<(), AllocError> {
-    for _ in 0..count {
-        text.push_str(part)?;
-    }
-    Ok(())
-}
-
-fn nested(alloc: Global, nest: Nest, count: usize) -> Result<String, AllocError> {
-    let mut text = String::new(alloc);
-    repeat(&mut text, nest.before, count)?;
-    text.push_str(nest.middle)?;
-    repeat(&mut text, nest.after, count)?;
-    Ok(text)
-}
-
-/// The height of the phrase, or else the place of what is too deep; it is the whole text but for its end.
-fn show_height(
-    rt: &impl Abort,
-    alloc: Global,
-    phrase: Phrase<Expr>,
-    end: usize,
-) -> Result<String, AllocError> {
-    match phrase {
-        Phrase::Whole { height, next, .. } => {
-            assert!(rt; next == end);
-            format!(in alloc; "height {height}")
-        }
-        Phrase::Deep { place, next } => {
-            assert!(rt; next == end);
-            format!(in alloc; "deep {place}")
-        }
-    }
-}
-
 /// The height of the expression that the text is, or else the place of its fault or of what is too deep.
 fn height_of(rt: &impl Abort, alloc: Global, text: &str) -> Result<String, Fail> {
     let tokens = tokens_of(alloc, text.as_bytes())?;
     assert!(rt; tokens.len() > 0);
-    match read_at(rt, alloc, &tokens, 0) {
+    match expr_at(rt, alloc, &tokens, 0) {
         Ok(phrase) => Ok(show_height(rt, alloc, phrase, tokens.len() - 1)?),
         Err(fault) => Ok(show_fault(alloc, fault)?),
     }

@@ -1,10 +1,11 @@
 //! A text's tokens, and what is read at one of them.
 
+use crate::directive::read_directive;
 use crate::expression::{ends_text, read_expr};
 use crate::phrase::{ParseFault, Phrase};
 use c_lexer::lexer::lex;
 use c_lexer::token::{LexFault, Token};
-use c_tree::tree::Expr;
+use c_tree::tree::{Directive, Expr};
 use std::alloc::{AllocError, Global};
 use std::process::Abort;
 use std::test::Fail;
@@ -17,7 +18,7 @@ pub fn tokens_of(alloc: Global, text: &[u8]) -> Result<Vec<Token>, Fail> {
     }
 }
 
-pub fn read_at(
+pub fn expr_at(
     rt: &impl Abort,
     alloc: Global,
     tokens: &[Token],
@@ -26,4 +27,15 @@ pub fn read_at(
     assert!(rt; at < tokens.len());
     assert!(rt; ends_text(tokens));
     read_expr(alloc, tokens, at)
+}
+
+pub fn directive_at(
+    rt: &impl Abort,
+    alloc: Global,
+    tokens: &[Token],
+    at: usize,
+) -> Result<Phrase<Directive>, ParseFault> {
+    assert!(rt; at < tokens.len());
+    assert!(rt; ends_text(tokens));
+    read_directive(alloc, tokens, at)
 }

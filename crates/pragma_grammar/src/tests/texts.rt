@@ -1,6 +1,6 @@
 //! Texts with their expressions, or with the place at which they have none.
 
-use super::read::{read_at, tokens_of};
+use super::read::{expr_at, tokens_of};
 use super::show::show;
 use std::alloc::Global;
 use std::process::Abort;
@@ -107,7 +107,7 @@ const FAULTS: [(&str, &str); 24] = [
 
 fn check_text(rt: &impl Abort, alloc: Global, text: &str, want: &str) -> Result<(), Fail> {
     let tokens = tokens_of(alloc, text.as_bytes())?;
-    let shown = show(alloc, read_at(rt, alloc, &tokens, 0))?;
+    let shown = show(alloc, expr_at(rt, alloc, &tokens, 0))?;
     assert_eq!(rt; shown.as_str(), want, "of {text:?}");
     Ok(())
 }
@@ -132,9 +132,9 @@ fn a_fault_is_the_first_token_that_no_expression_has_there(rt: HostRuntime) -> R
 #[test]
 fn words_of_a_directive_line_are_outside_there_alone(rt: HostRuntime) -> Result<(), Fail> {
     let line = tokens_of(rt.alloc(), b"#pragma omp tile sizes(if)\nif;")?;
-    let inside = show(rt.alloc(), read_at(&rt, rt.alloc(), &line, 6))?;
+    let inside = show(rt.alloc(), expr_at(&rt, rt.alloc(), &line, 6))?;
     assert_eq!(rt; inside.as_str(), "Outside 23");
-    let after = show(rt.alloc(), read_at(&rt, rt.alloc(), &line, 9))?;
+    let after = show(rt.alloc(), expr_at(&rt, rt.alloc(), &line, 9))?;
     assert_eq!(rt; after.as_str(), "Syntax 27");
     Ok(())
 }
