@@ -10,3 +10,4 @@ pub mod SpelledExprs
 pub mod SpelledStmts
 pub mod SpelledPrograms
 pub mod ReadsBack
+pub mod OneReading
