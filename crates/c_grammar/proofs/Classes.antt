@@ -1,5 +1,5 @@
 -- The classes of symbols: which symbols they are, and which go on with an expression.
-use Rattle.std.proofs.Common.{◌≡◌, refl, sym, ap, ◌∙◌, subst, ℕ, List, [], ◌∷◌, Option, Some, None, Bool, true, false, codes}
+use Rattle.std.proofs.Common.{◌≡◌, refl, sym, ap, ◌∙◌, ℕ, List, [], ◌∷◌, Option, Some, None, Bool, true, false, codes}
 use Rattle.std.specs.Prelude.{bytes_eq, cond}
 use Rattle.std.proofs.lemmas.Slice.Eq.{bytes_eq-Decides}
 use Rattle.c_tree.specs.Bare.{Name}
@@ -9,13 +9,12 @@ use Rattle.c_tree.specs.declared.tree.BinOp.{BinOp}
 use Rattle.c_tree.specs.declared.tree.UnOp.{UnOp}
 use Rattle.c_tree.specs.declared.tree.SetOp.{SetOp}
 use Rattle.c_lexer.specs.declared.token.Punct.TheVariants as p
-use Rattle.c_lexer.specs.declared.words.Keyword.{Keyword}
 use Rattle.c_lexer.specs.declared.words.Keyword.TheVariants as k
-use Rattle.pragma_grammar.specs.Symbols.{Symbol, name, number, punct, keyword, static, hash, line_end, end, place, spanning}
+use Rattle.pragma_grammar.specs.Symbols.{Symbol, name, number, punct, keyword, line_end}
 use Rattle.pragma_grammar.specs.Expressions.{unary_of, binary_of, Phrase, Listed, last, next, literal, named, parens, unary, convert, binary, choice, Subscripts, no_more, one_more}
 use Rattle.pragma_grammar.specs.Reading.{GoesOn, by_operator, by_question, by_square, Stops, stops}
 use Rattle.c_grammar.specs.Statements.{assigns, steps}
-use Rattle.c_grammar.specs.Goals.{Class, round_open, round_close, curly_open, curly_close, square_close, semicolon, comma, assign, else_word, while_word, void_word, print_word, input_word, main_word, int_word, long_word, return_word, pragma_word, omp_word, define_word, the_line_end, fixed, take, spelled, goes_on, is_some_operator}
+use Rattle.c_grammar.specs.Goals.{Class, round_open, round_close, curly_open, curly_close, square_close, semicolon, comma, assign, else_word, while_word, void_word, print_word, input_word, main_word, int_word, long_word, return_word, pragma_word, omp_word, define_word, the_line_end, fixed, take, goes_on, is_some_operator}
 
 pub none_some : {A : Type 0} {x : A} → None ≡ Some x → ⊥
 none_some q = cc

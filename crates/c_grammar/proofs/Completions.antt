@@ -1,27 +1,24 @@
 -- Every goal has a completion: fixed tokens for each kind of open phrase. They never begin with what goes on with an
 -- expression.
-use Rattle.std.proofs.Common.{◌≡◌, refl, sym, ap, subst, ℕ, ◌⊎◌, inl, inr, List, [], ◌∷◌, Option, Some, None, Bool, true, false}
-use Rattle.std.specs.Prelude.{cond}
+use Rattle.std.proofs.Common.{◌≡◌, refl, sym, subst, ℕ, inl, List, [], ◌∷◌, Some, None, true, false}
 use Rattle.c_tree.specs.Bare.{Name}
-use Rattle.c_tree.specs.Placed.{Expr, Exprs, no_exprs, more_exprs, Target, target, Directive, Stmt, decl, set, step as steps_stmt, print, input, if_, if_else, while_, do_, for_, block, break_, continue_, empty, omp, call, Stmts, no_stmts, more_stmts, MaybeStmt, no_stmt, a_stmt, Head, head, Param, Top, define, extern_, global, function, main}
+use Rattle.c_tree.specs.Placed.{Expr, no_exprs, more_exprs, target, Directive, Stmt, decl, set, empty, Stmts, no_stmts, more_stmts, no_stmt, Param, global, main}
 use Rattle.c_tree.specs.declared.tree.Span.{Span}
 use Rattle.c_tree.specs.declared.tree.Ty.{Ty}
 use Rattle.c_tree.specs.declared.tree.Ty.TheVariants as tys
-use Rattle.c_tree.specs.declared.tree.SetOp.{SetOp}
 use Rattle.c_tree.specs.declared.tree.SetOp.TheVariants as op
 use Rattle.c_lexer.specs.declared.token.Punct.TheVariants as pn
 use Rattle.c_lexer.specs.declared.words.Keyword.TheVariants as kw
-use Rattle.pragma_grammar.specs.Symbols.{Symbol, name, number, punct, keyword, static, hash, line_end, end, place, start_of, spanning}
-use Rattle.pragma_grammar.specs.Expressions.{TypeName, int, long_long, long_long_int, Phrase, Subscripts, no_more, one_more, Listed, last, next}
+use Rattle.pragma_grammar.specs.Symbols.{Symbol, name, number, punct, keyword, line_end, end, place, start_of, spanning}
+use Rattle.pragma_grammar.specs.Expressions.{int, no_more, last}
 use Rattle.pragma_grammar.specs.Reading.{Stops}
 use Rattle.c_grammar.specs.Statements as st
 use Rattle.c_grammar.specs.Statements.{assigns, steps, NoElse, TargetPhrase, Simple, Declarator, Declarators, Init, Test, Next, HeadPhrase, Plain, Body, Units}
 use Rattle.c_grammar.specs.Programs as pr
 use Rattle.c_grammar.specs.Programs.{Signed, Value, Started, started, Global, Globals, Params, Parameters, MayStand, MayBeNamed, MayReturn, Tops}
-use Rattle.c_grammar.proofs.Meaning.{all_is_read, ends_here, Takes, takes_it, Without, without, TakesName, takes_name, Unnamed, Nameless, nameless, takes_number, takes_zero, SignReads, sign_reads, ValueReads, value_reads, ExprReads, expr_reads, Stopping, stopping_at, DirectiveReads, directive_reads, IndicesRead, indices_read, ListedReads, listed_reads, Operates, assigning, stepping, SimpleReads, simple_reads, PlainReads, plain_reads, BodyReads, body_reads, Closing, closes, closes_returned, UnitsRead, units_read, DeclaratorsRead, declarators_read, InitReads, init_reads, ParamsRead, params_read, GlobalsRead, globals_read, TopsRead, tops_read, Meets, Moves}
-use Rattle.c_grammar.proofs.Classes.{none_some, Absent, class_stops, assigns_stops, steps_stops, stops_false, on_false, steps_assigns, assigns_round, steps_round, steps_close, subscripts_round, Foreign, no_input, no_semicolon, no_close, phrase_absent, listed_absent, take_fixed, take_is}
-use Rattle.c_grammar.specs.Goals as gl
-use Rattle.c_grammar.specs.Goals.{Class, round_open, round_close, curly_open, curly_close, square_close, semicolon, comma, assign, else_word, while_word, void_word, print_word, input_word, main_word, int_word, long_word, return_word, pragma_word, omp_word, define_word, the_line_end, fixed, take, goes_on, Goal, ends, takes, may, names, may_name, numbers, zero, signs, values, at, expr, stopping, directive, subscripts, listed, operator, simple, body, units, declarators, init, params, globals, tops, Move, stuck, leads, reads, directs, accepts}
+use Rattle.c_grammar.proofs.Meaning.{ends_here, takes_it, takes_name, takes_number, takes_zero, sign_reads, value_reads, expr_reads, stopping_at, directive_reads, indices_read, listed_reads, assigning, simple_reads, body_reads, closes, units_read, declarators_read, init_reads, params_read, globals_read, tops_read, Meets}
+use Rattle.c_grammar.proofs.Classes.{class_stops, stops_false, on_false}
+use Rattle.c_grammar.specs.Goals.{Class, round_open, round_close, curly_open, curly_close, square_close, semicolon, comma, assign, else_word, while_word, void_word, print_word, input_word, main_word, int_word, long_word, return_word, pragma_word, omp_word, define_word, the_line_end, fixed, goes_on, Goal, ends, takes, may, names, may_name, numbers, zero, signs, values, at, expr, stopping, directive, subscripts, listed, operator, simple, body, units, declarators, init, params, globals, tops}
 use Rattle.c_tree.specs.Placed.{no_clauses, directive as directive_tree, num}
 use Rattle.c_tree.specs.declared.tree.Kind.TheVariants as kinds
 use Rattle.std.proofs.Common.{codes}
@@ -32,7 +29,7 @@ use Rattle.c_lexer.specs.declared.token.TokenKind.TheVariants as kind
 use Rattle.pragma_grammar.specs.Symbols.{symbol, symbols}
 use Rattle.pragma_grammar.specs.Expressions.{literal}
 use Rattle.pragma_grammar.specs.Words.{kind_of}
-use Rattle.pragma_grammar.specs.Directives.{DirectivePhrase, directive_phrase, no_clause}
+use Rattle.pragma_grammar.specs.Directives.{directive_phrase, no_clause}
 
 abbrev pub nowhere : Span
 nowhere = record { start = 0; end = 0 }

@@ -1,5 +1,5 @@
 -- A directive's symbols spell it before any others.
-use Rattle.std.proofs.Common.{◌≡◌, refl, sym, ap, ◌∙◌, subst, Bool, true, false, List, [], ◌∷◌, ◌++◌, append_assoc}
+use Rattle.std.proofs.Common.{◌≡◌, refl, sym, ap, ◌∙◌, subst, Bool, true, List, [], ◌∷◌, ◌++◌, append_assoc}
 use Rattle.std.proofs.lemmas.List.{append_cancel_right}
 use Rattle.c_tree.specs.Bare.{Name}
 use Rattle.c_tree.specs.Placed.{Expr, Exprs, Count, Directive, Clauses, ClauseKind, Items, Item}

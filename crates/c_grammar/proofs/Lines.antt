@@ -1,12 +1,11 @@
 -- Expressions and directives hold no end of a line.
-use Rattle.std.proofs.Common.{◌≡◌, refl, sym, ap, ◌∙◌, ℕ, ◌≤◌, suc, List, [], ◌∷◌, length, Some, None, arith}
+use Rattle.std.proofs.Common.{◌≡◌, refl, sym, ◌∙◌, ℕ, ◌≤◌, List, [], ◌∷◌, length, Some, arith}
 use Rattle.c_tree.specs.Placed.{Expr, Exprs, Count, Directive, Clauses, ClauseKind, Items, Item}
 use Rattle.c_tree.specs.declared.tree.Span.{Span}
 use Rattle.c_tree.specs.declared.tree.Ty.{Ty}
 use Rattle.c_tree.specs.declared.tree.UnOp.{UnOp}
 use Rattle.c_tree.specs.declared.tree.BinOp.{BinOp}
-use Rattle.c_lexer.specs.declared.token.Punct.TheVariants as pn
-use Rattle.pragma_grammar.specs.Symbols.{Symbol, punct, line_end}
+use Rattle.pragma_grammar.specs.Symbols.{Symbol, line_end}
 use Rattle.pragma_grammar.specs.Expressions.{TypeName, int, long_long, long_long_int, unary_of, binary_of, Phrase, literal, named, parens, unary, convert, binary, choice, Subscripts, no_more, one_more, Listed, last, next}
 use Rattle.pragma_grammar.specs.Directives.{Counted, fills, gives, CountsListed, last_count, next_count, ClausePhrase, sizes_clause, permutation_clause, counts_clause, looprange_clause, full_clause, partial_clause, partial_factor, apply_items, apply_modified, apply_indexed, ClausesPhrase, no_clause, one_clause, after_comma, DirectivePhrase, directive_phrase, ItemPhrase, does_nothing, directs, ItemsListed, last_item, next_item}
 use Rattle.pragma_grammar.specs.Reading.{EndsLine, ends_line}

@@ -1,5 +1,5 @@
 -- What completes a goal: the symbols from there to the end of the text, for a program.
-use Rattle.std.proofs.Common.{◌≡◌, ℕ, ◌⊎◌, List, [], ◌∷◌, Option, Some, None, Bool, true, false}
+use Rattle.std.proofs.Common.{◌≡◌, ℕ, ◌⊎◌, List, [], ◌∷◌, Some, Bool, true}
 use Rattle.c_tree.specs.Bare.{Name}
 use Rattle.c_tree.specs.Placed.{Expr, Exprs, Directive, Stmt, Stmts, MaybeStmt, Param}
 use Rattle.c_tree.specs.declared.tree.Span.{Span}

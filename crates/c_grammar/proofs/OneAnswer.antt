@@ -1,12 +1,12 @@
 -- Tokens have at most one answer: one tree, one place where it is too deep, or one blame.
-use Rattle.std.proofs.Common.{◌≡◌, refl, sym, ap, ◌∙◌, subst, ℕ, ◌⊎◌, inl, inr, List, [], ◌∷◌, ◌++◌, Option, Some, None, append_assoc}
+use Rattle.std.proofs.Common.{◌≡◌, refl, sym, ap, ◌∙◌, subst, ℕ, ◌⊎◌, inl, inr, List, [], ◌∷◌, ◌++◌, Some, append_assoc}
 use Rattle.c_tree.specs.Placed.{Program}
 use Rattle.c_lexer.specs.declared.token.Token.{Token}
 use Rattle.pragma_grammar.specs.declared.phrase.ParseKind.{ParseKind}
 use Rattle.pragma_grammar.specs.Symbols.{symbols}
 use Rattle.pragma_grammar.specs.Reading.{blamed_as}
 use Rattle.c_grammar.specs.Programs.{Started, tops_of, SpellsItems, Spells}
-use Rattle.c_grammar.specs.Reading.{Begins, Blame, deep_items, IsTree, IsTooDeep}
+use Rattle.c_grammar.specs.Reading.{Blame, deep_items, IsTree, IsTooDeep}
 use Rattle.c_grammar.proofs.Classes.{none_some}
 use Rattle.c_grammar.proofs.OneProgram.{one_spelled}
 

@@ -1,9 +1,9 @@
 -- Symbols before the end of a line are spelled by at most one directive.
-use Rattle.std.proofs.Common.{◌≡◌, refl, sym, ap, ◌∙◌, subst, ℕ, Bool, true, false, List, [], ◌∷◌, Option, Some, None, codes}
-use Rattle.std.specs.Prelude.{IsTrue, bytes_eq}
+use Rattle.std.proofs.Common.{◌≡◌, refl, sym, ap, ◌∙◌, subst, ℕ, Bool, true, false, List, [], ◌∷◌, Some, None, codes}
+use Rattle.std.specs.Prelude.{IsTrue}
 use Rattle.std.proofs.lemmas.Slice.Eq.{bytes_eq-Decides}
 use Rattle.c_tree.specs.Bare.{Name}
-use Rattle.c_tree.specs.Placed.{Expr, Exprs, no_exprs, more_exprs, Count, fill, given, Directive, directive, Clauses, no_clauses, more_clauses, clause, ClauseKind, sizes, permutation, counts, looprange, full, partial, apply, Items, no_items, more_items, Item, nothing, acts}
+use Rattle.c_tree.specs.Placed.{Expr, Exprs, no_exprs, more_exprs, Count, given, Directive, directive, Clauses, more_clauses, clause, ClauseKind, sizes, permutation, counts, looprange, full, partial, apply, Items, no_items, more_items, Item, acts}
 use Rattle.c_tree.specs.declared.tree.Span.{Span}
 use Rattle.c_tree.specs.declared.tree.Kind.{Kind}
 use Rattle.c_tree.specs.declared.tree.UnOp.{UnOp}
@@ -17,7 +17,7 @@ use Rattle.pragma_grammar.specs.Words.{kind_of, clause_of, is_nothing}
 use Rattle.pragma_grammar.specs.Expressions.{unary_of, Phrase, unary, binary, choice, Listed, last, next}
 use Rattle.pragma_grammar.specs.Directives.{Counted, fills, gives, CountsListed, last_count, next_count, ClausePhrase, sizes_clause, permutation_clause, counts_clause, looprange_clause, full_clause, partial_clause, partial_factor, apply_items, apply_modified, apply_indexed, ClausesPhrase, no_clause, one_clause, after_comma, DirectivePhrase, directive_phrase, ItemPhrase, does_nothing, directs, ItemsListed, last_item, next_item}
 use Rattle.pragma_grammar.specs.Reading.{Stops, EndsLine, ends_line}
-use Rattle.c_grammar.specs.Goals.{round_close, comma, fixed}
+use Rattle.c_grammar.specs.Goals.{round_close, comma}
 use Rattle.c_grammar.proofs.Classes.{none_some, class_stops}
 use Rattle.c_grammar.proofs.Letters.{one_expr}
 

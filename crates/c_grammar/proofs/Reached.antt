@@ -1,20 +1,21 @@
--- The tokens that were read lead to a goal: what completes it completes them, and what completes them with the same
--- token after them completes it. So a token that fits nowhere is blamed exactly.
+-- The tokens that were read lead to a goal: they begin a program, and what completes the goal, with the same token first,
+-- is what completes them. So a token that fits nowhere is blamed exactly.
 use Rattle.std.proofs.Common.{◌≡◌, ℕ, List, [], ◌∷◌, ◌++◌, refl, sym, ap, ◌∙◌, subst, append_assoc}
-use Rattle.c_tree.specs.Placed.{Expr, Directive, Program}
+use Rattle.std.proofs.lemmas.List.{append-nil}
+use Rattle.c_tree.specs.Placed.{Expr, Program}
 use Rattle.c_tree.specs.declared.tree.Span.{Span}
 use Rattle.c_lexer.specs.declared.token.Token.{Token}
 use Rattle.pragma_grammar.specs.declared.phrase.ParseKind.{ParseKind}
 use Rattle.pragma_grammar.specs.Symbols.{Symbol, symbol, symbols}
 use Rattle.pragma_grammar.specs.Expressions.{Phrase}
-use Rattle.pragma_grammar.specs.Reading.{blamed_as, IsWhole, IsFault, Stops, SpelledExpr, EndsLine, ends_line, SpelledDirective}
+use Rattle.pragma_grammar.specs.Reading.{blamed_as, IsWhole, IsFault, Stops, SpelledExpr}
 use Rattle.c_grammar.specs.Programs.{Started, tops_of, SpellsSymbols, spells, SpellsItems, Spells}
 use Rattle.c_grammar.specs.Reading.{Begins, Blame}
 use Rattle.c_grammar.specs.Goals as gl
 use Rattle.c_grammar.specs.Goals.{Goal, takes, the_line_end, stopping, Move, stuck, leads, reads, directs, accepts}
-use Rattle.c_grammar.proofs.Meaning.{TopsRead, tops_read, Ends, ends_here, AllRead, all_is_read, Takes, takes_it, Stopping, stopping_at, ExprReads, expr_reads, DirectiveReads, directive_reads, Meets, Moves}
+use Rattle.c_grammar.proofs.Meaning.{TopsRead, tops_read, Ends, ends_here, AllRead, all_is_read, Stopping, stopping_at, ExprReads, expr_reads, Meets, Moves}
 use Rattle.c_grammar.proofs.Steps.{step_to, step_from}
-use Rattle.c_grammar.proofs.Completions.{complete, Completion, Met}
+use Rattle.c_grammar.proofs.Completions.{complete}
 use Rattle.c_grammar.proofs.Letters.{symbols_append, one_expr, expr_any, stops_any}
 
 -- ---- a program is what completes the first goal
@@ -33,27 +34,13 @@ program_from items ts h = program_of h
 pub record Reached (ts : List Token) (x : Goal) (rest : List Token) : Type 0 where
   pub before : List Token
   pub parts : ts ≡ before ++ rest
-  pub from : (p : List Started) (vs : List Symbol) → Meets p x vs → Meets p gl.program_goal (symbols before ++ vs)
+  pub begins : Begins before
+  pub from : (p : List Started) (t : Token) (more : List Token) → rest ≡ t ∷ more → (vs : List Symbol) → Meets p x (symbol t ∷ vs) → Meets p gl.program_goal (symbols before ++ symbol t ∷ vs)
   pub to : (p : List Started) (t : Token) (more : List Token) → rest ≡ t ∷ more → (vs : List Symbol) → Meets p gl.program_goal (symbols before ++ symbol t ∷ vs) → Meets p x (symbol t ∷ vs)
 
 seam : (before seg : List Token) (vs : List Symbol) → symbols (before ++ seg) ++ vs ≡ symbols before ++ (symbols seg ++ vs)
 seam [] seg vs = refl
 seam (x ∷ before) seg vs = ap (λ l. symbol x ∷ l) (seam before seg vs)
-
-pub reach_start : (ts : List Token) → Reached ts gl.program_goal ts
-reach_start ts = record { before = []; parts = refl; from = λ p vs h. h; to = λ p t more q vs h. h }
-
--- a token that leads on
-pub reach_step : (ts : List Token) (x y : Goal) (t : Token) (rest : List Token) → Reached ts x (t ∷ rest) → gl.step x (symbol t) ≡ leads y → Reached ts y rest
-reach_step ts x y t rest r q =
-    record {
-      before = r.before ++ t ∷ [];
-      parts = r.parts ∙ sym (append_assoc r.before (t ∷ []) rest);
-      from = λ p vs h. subst (Meets p gl.program_goal) (sym (seam r.before (t ∷ []) vs)) (r.from p (symbol t ∷ vs) (step_from p x (symbol t) vs (subst (λ m. Moves p m (symbol t) vs) (sym q) h)));
-      to = λ p u more e vs h. subst (λ m. Moves p m (symbol t) (symbol u ∷ vs)) q (step_to p x (symbol t) (symbol u ∷ vs) (r.to p t rest refl (symbol u ∷ vs) (subst (Meets p gl.program_goal) (seam r.before (t ∷ []) (symbol u ∷ vs)) h)));
-    }
-
--- ---- how it ends
 
 spelled : (items : List Started) (xs ys : List Token) → Meets items gl.program_goal (symbols xs ++ symbols ys) → SpellsItems items (xs ++ ys)
 spelled items xs ys h = program_from items (symbols (xs ++ ys)) (subst (Meets items gl.program_goal) (sym (symbols_append xs ys)) h)
@@ -64,10 +51,49 @@ unspelled program xs t more s = subst (Meets s.items gl.program_goal) (symbols_a
 program_spelled : (items : List Started) (xs ys : List Token) → Meets items gl.program_goal (symbols xs ++ symbols ys) → Begins xs
 program_spelled items xs ys h = record { program = tops_of items; more = ys; spells = record { items = items; spelled = spelled items xs ys h; same = refl } }
 
+-- ---- one token
+
+pub reach_start : (ts : List Token) → Reached ts gl.program_goal ts
+reach_start ts =
+    let c = complete gl.program_goal in
+    record { before = []; parts = refl; begins = program_spelled c.program [] c.tokens c.meets; from = λ p t more q vs h. h; to = λ p t more q vs h. h }
+
+-- a token that leads on
+pub reach_step : (ts : List Token) (x y : Goal) (t : Token) (rest : List Token) → Reached ts x (t ∷ rest) → gl.step x (symbol t) ≡ leads y → Reached ts y rest
+reach_step ts x y t rest r q =
+    let back : (p : List Started) (vs : List Symbol) → Meets p y vs → Meets p gl.program_goal (symbols (r.before ++ t ∷ []) ++ vs) =
+    (λ p vs h. subst (Meets p gl.program_goal) (sym (seam r.before (t ∷ []) vs)) (r.from p t rest refl vs (step_from p x (symbol t) vs (subst (λ m. Moves p m (symbol t) vs) (sym q) h)))) in
+    let c = complete y in
+    record {
+      before = r.before ++ t ∷ [];
+      parts = r.parts ∙ sym (append_assoc r.before (t ∷ []) rest);
+      begins = program_spelled c.program (r.before ++ t ∷ []) c.tokens (back c.program (symbols c.tokens) c.meets);
+      from = λ p u more e vs h. back p (symbol u ∷ vs) h;
+      to = λ p u more e vs h. subst (λ m. Moves p m (symbol t) (symbol u ∷ vs)) q (step_to p x (symbol t) (symbol u ∷ vs) (r.to p t rest refl (symbol u ∷ vs) (subst (Meets p gl.program_goal) (seam r.before (t ∷ []) (symbol u ∷ vs)) h)));
+    }
+
+-- a goal at which the token does the same
+pub reach_alike : (ts : List Token) (x y : Goal) (t : Token) (rest : List Token) → Reached ts x (t ∷ rest) → gl.step x (symbol t) ≡ gl.step y (symbol t) → Reached ts y (t ∷ rest)
+reach_alike ts x y t rest r q =
+    record {
+      before = r.before;
+      parts = r.parts;
+      begins = r.begins;
+      from = λ p u more e vs h.
+          let same : t ≡ u = (let z : t ∷ rest ≡ u ∷ more = e in cc) in
+          let g = step_to p y (symbol t) vs (subst (λ z. Meets p y (symbol z ∷ vs)) (sym same) h) in
+          subst (λ z. Meets p gl.program_goal (symbols r.before ++ symbol z ∷ vs)) same (r.from p t rest refl vs (step_from p x (symbol t) vs (subst (λ m. Moves p m (symbol t) vs) (sym q) g)));
+      to = λ p u more e vs h.
+          let same : t ≡ u = (let z : t ∷ rest ≡ u ∷ more = e in cc) in
+          let g = r.to p t rest refl vs (subst (λ z. Meets p gl.program_goal (symbols r.before ++ symbol z ∷ vs)) (sym same) h) in
+          subst (λ z. Meets p y (symbol z ∷ vs)) same (step_from p y (symbol t) vs (subst (λ m. Moves p m (symbol t) vs) q (step_to p x (symbol t) vs g)));
+    }
+
+-- ---- how it ends
+
 -- the token fits nowhere
 pub reach_stuck : (ts : List Token) (x : Goal) (t : Token) (rest : List Token) → Reached ts x (t ∷ rest) → gl.step x (symbol t) ≡ stuck → Blame ts (blamed_as t rest) t.span.start
 reach_stuck ts x t rest r q =
-    let c = complete x in
     record {
       before = r.before;
       token = t;
@@ -75,7 +101,7 @@ reach_stuck ts x t rest r q =
       parts = r.parts;
       at_place = refl;
       of_kind = refl;
-      begins = program_spelled c.program r.before c.tokens (r.from c.program (symbols c.tokens) c.meets);
+      begins = r.begins;
       none = λ program more s. subst (λ m. Moves s.items m (symbol t) (symbols more)) q (step_to s.items x (symbol t) (symbols more) (r.to s.items t rest refl (symbols more) (unspelled program r.before t more s)));
     }
 
@@ -85,7 +111,7 @@ last_read all_is_read = refl
 
 pub reach_end : (ts : List Token) (x : Goal) (t : Token) (items : List Started) → Reached ts x (t ∷ []) → gl.step x (symbol t) ≡ accepts items → SpellsItems items ts
 reach_end ts x t items r q =
-    subst (λ l. SpellsItems items l) (sym r.parts) (spelled items r.before (t ∷ []) (r.from items (symbol t ∷ []) (step_from items x (symbol t) [] (subst (λ m. Moves items m (symbol t) []) (sym q) all_is_read))))
+    subst (λ l. SpellsItems items l) (sym r.parts) (spelled items r.before (t ∷ []) (r.from items t [] refl [] (step_from items x (symbol t) [] (subst (λ m. Moves items m (symbol t) []) (sym q) all_is_read))))
 
 pub reach_only : (ts : List Token) (x : Goal) (t : Token) (items others : List Started) → Reached ts x (t ∷ []) → gl.step x (symbol t) ≡ accepts items → SpellsItems others ts → others ≡ items
 reach_only ts x t items others r q s =
@@ -130,10 +156,14 @@ module _ (T : Type 0) (Spelled : T → List Symbol → List Symbol → Type 0) (
       → Reached ts x (t ∷ rest) → Letter x (symbol t) after → rest ≡ seg ++ u ∷ more → IsWhole T Spelled Ends (symbols (t ∷ rest)) e (symbols (u ∷ more)) → Reached ts (after e) (u ∷ more)
   reach_letter ts x after t rest seg u more e r x' q i =
       let all : (vs : List Symbol) → Spelled e (symbols (t ∷ seg) ++ vs) vs = any e (t ∷ seg) (u ∷ more) (subst (λ y. Spelled e (symbols (t ∷ y)) (symbols (u ∷ more))) q i.phrase) in
+      let back : (p : List Started) (vs : List Symbol) → Meets p (after e) vs → Meets p gl.program_goal (symbols (r.before ++ t ∷ seg) ++ vs) =
+      (λ p vs h. subst (Meets p gl.program_goal) (sym (seam r.before (t ∷ seg) vs)) (r.from p t rest refl (symbols seg ++ vs) (x'.from p (symbols seg ++ vs) vs e (all vs) h))) in
+      let c = complete (after e) in
       record {
         before = r.before ++ t ∷ seg;
         parts = r.parts ∙ ap (λ y. r.before ++ t ∷ y) q ∙ sym (append_assoc r.before (t ∷ seg) (u ∷ more));
-        from = λ p vs h. subst (Meets p gl.program_goal) (sym (seam r.before (t ∷ seg) vs)) (r.from p (symbols (t ∷ seg) ++ vs) (x'.from p (symbols seg ++ vs) vs e (all vs) h));
+        begins = program_spelled c.program (r.before ++ t ∷ seg) c.tokens (back c.program (symbols c.tokens) c.meets);
+        from = λ p v others o vs h. back p (symbol v ∷ vs) h;
         to = λ p v others o vs h.
             let same : u ≡ v = (let z : u ∷ more ≡ v ∷ others = o in cc) in
             let g = subst (λ m. Meets p gl.program_goal (symbols r.before ++ (symbols (t ∷ seg) ++ symbol m ∷ vs))) (sym same) (subst (Meets p gl.program_goal) (seam r.before (t ∷ seg) (symbol v ∷ vs)) h) in
@@ -145,15 +175,14 @@ module _ (T : Type 0) (Spelled : T → List Symbol → List Symbol → Type 0) (
   -- what was read before the token of a fault begins a program
   fault_begins : (ts : List Token) (x : Goal) (after : T → Goal) (t : Token) (rest : List Token) (r : Reached ts x (t ∷ rest)) → Letter x (symbol t) after → (e : T) (before : List Token) (blamed : Token) (others more : List Token) → t ∷ rest ≡ before ++ blamed ∷ others → ((us : List Symbol) → Spelled e (symbols (before ++ more) ++ us) us) → Begins (r.before ++ before)
   fault_begins ts x after t rest r x' e [] blamed others more q h =
-      let c = complete x in
-      program_spelled c.program (r.before ++ []) c.tokens (subst (Meets c.program gl.program_goal) (sym (seam r.before [] (symbols c.tokens))) (r.from c.program (symbols c.tokens) c.meets))
+      subst Begins (sym (append-nil r.before)) r.begins
   fault_begins ts x after t rest r x' e (y ∷ before) blamed others more q h =
       let same : t ≡ y = (let z : t ∷ rest ≡ y ∷ (before ++ blamed ∷ others) = q in cc) in
       let c = complete (after e) in
       let us = symbols (before ++ more) ++ symbols c.tokens in
       let first : Spelled e (symbol t ∷ us) (symbols c.tokens) = subst (λ z. Spelled e (symbol z ∷ us) (symbols c.tokens)) (sym same) (h (symbols c.tokens)) in
-      let m : Meets c.program x (symbol y ∷ us) = subst (λ z. Meets c.program x (symbol z ∷ us)) same (x'.from c.program us (symbols c.tokens) e first c.meets) in
-      program_spelled c.program (r.before ++ y ∷ before) (more ++ c.tokens) (subst (Meets c.program gl.program_goal) (seam_more r.before (y ∷ before) more c.tokens) (r.from c.program (symbol y ∷ us) m))
+      let m = r.from c.program t rest refl us (x'.from c.program us (symbols c.tokens) e first c.meets) in
+      program_spelled c.program (r.before ++ y ∷ before) (more ++ c.tokens) (subst (Meets c.program gl.program_goal) (seam_more r.before (y ∷ before) more c.tokens) (subst (λ z. Meets c.program gl.program_goal (symbols r.before ++ symbol z ∷ us)) same m))
 
   pub reach_fault : (ts : List Token) (x : Goal) (after : T → Goal) (t : Token) (rest : List Token) (kind : ParseKind) (place : ℕ)
       → Reached ts x (t ∷ rest) → Letter x (symbol t) after → IsFault T Spelled Ends (t ∷ rest) kind place → Blame ts kind place

@@ -1,5 +1,5 @@
 -- A program no part of which is too deep has height 256 at most.
-use Rattle.std.proofs.Common.{◌≡◌, ℕ, ◌≤◌, ◌+◌, Bool, true, false, cond, nat_le, List, [], ◌∷◌, Option, Some, None, refl, arith, max}
+use Rattle.std.proofs.Common.{◌≡◌, ℕ, ◌≤◌, Bool, true, false, cond, nat_le, List, [], ◌∷◌, Option, Some, None, refl, arith}
 use Rattle.c_tree.specs.Placed.{Top, define, extern_, global, function, main}
 use Rattle.c_tree.specs.Forget.{forget_top, forget_program}
 use Rattle.c_tree.specs.Height.{top_height, program_height}

@@ -1,12 +1,12 @@
 -- Sound symbols spell well-formed programs.
-use Rattle.std.proofs.Common.{◌≡◌, ℕ, Bool, false, List, [], ◌∷◌, Option, Some, None, map, refl, IsTrue}
+use Rattle.std.proofs.Common.{◌≡◌, ℕ, Bool, false, List, [], ◌∷◌, Option, None, map, refl, IsTrue}
 use Rattle.std.specs.Option.{option_map}
 use Rattle.c_tree.specs.Placed.{Expr, Exprs, no_exprs, more_exprs, Target, Stmt, Stmts, MaybeStmt, a_stmt, Head, Param, Top, define, extern_, function, Program}
 use Rattle.c_tree.specs.declared.tree.Span.{Span}
 use Rattle.c_tree.specs.declared.tree.Ty.{Ty}
 use Rattle.c_tree.specs.Constants.{IsHeld}
 use Rattle.c_tree.specs.Forget.{forget_expr, forget_exprs, forget_target, forget_stmt, forget_stmts, forget_maybe, forget_head, forget_param, forget_top, forget_program}
-use Rattle.c_tree.specs.WellFormed.{IsName, WellFormedExpr, WellFormedExprs, WellFormedOption, WellFormedTarget, WellFormedStmt, WellFormedStmts, WellFormedPart, WellFormedHead, MayBegin, MayEnd, WellFormedParams, WellFormedInitial, WellFormedTop, WellFormedTops, WellFormed, is_main, ends_in_main}
+use Rattle.c_tree.specs.WellFormed.{WellFormedOption, WellFormedTarget, WellFormedStmt, WellFormedStmts, WellFormedPart, WellFormedHead, MayBegin, MayEnd, WellFormedParams, WellFormedInitial, WellFormedTop, WellFormedTops, WellFormed, is_main, ends_in_main}
 use Rattle.c_lexer.specs.declared.words.Keyword.{Keyword}
 use Rattle.c_tree.specs.declared.tree.Port.TheVariants as port
 use Rattle.pragma_grammar.specs.Symbols.{Symbol, start_of, spanning}
@@ -16,7 +16,7 @@ use Rattle.c_lexer.specs.declared.token.Token.{Token}
 use Rattle.pragma_grammar.proofs.Lexed.{sound_cut}
 use Rattle.pragma_grammar.proofs.WellFormed.{after_type_name, sound_phrase, sound_subscripts, sound_list, sound_directive}
 use Rattle.c_grammar.specs.Statements.{TargetPhrase, targets, Simple, assignment, step_after, step_before, Declarator, unset, valued, read_in, Declarators, last_declarator, next_declarator, Init, no_init, declares, begins, Test, no_test, tests, Next, no_next, goes_on, HeadPhrase, three_parts, Plain, nothing, simply, reads, prints, calls, calls_with, decides, chooses, repeats, does, loops, breaks, continues, transforms, Body, braced, lone, Units, over, next, inner, declared}
-use Rattle.c_grammar.specs.Programs.{Signed, positive, negative, Value, bare, in_parens, MayStand, absent, present, MayBeNamed, unnamed, named, Global, plain, valued as with_value, Started, started, Globals, last_global, next_global, Params, last_param, next_param, Parameters, none, some, MayReturn, goes_off, returns, Tops, the_main, defines, printer, reader, variables, a_function, tops_of, SpellsSymbols, spells, Spells}
+use Rattle.c_grammar.specs.Programs.{Signed, positive, negative, Value, bare, in_parens, MayStand, absent, present, MayBeNamed, unnamed, named, Global, plain, valued as with_value, Started, started, Globals, last_global, next_global, Params, last_param, next_param, Parameters, none, some, Tops, the_main, defines, printer, reader, variables, a_function, tops_of, SpellsSymbols, spells, Spells}
 
 -- ---- statements
 

@@ -1,9 +1,9 @@
 -- The automaton that reads programs. Its state is a goal: what the next symbols have to spell, and, as a function of the
 -- tree that they spell, what comes after it. A symbol leads from a goal to the next one. A whole expression and a whole
 -- directive are read in one step.
-use Rattle.std.specs.Prelude.{ℕ, Bool, true, false, cond, List, [], ◌∷◌, ◌||◌, Option, Some, None, codes, bytes_eq}
+use Rattle.std.specs.Prelude.{ℕ, Bool, true, false, cond, List, [], ◌∷◌, Option, Some, None, codes, bytes_eq}
 use Rattle.c_tree.specs.Bare.{Name}
-use Rattle.c_tree.specs.Placed.{Expr, Exprs, no_exprs, more_exprs, Target, target, Directive, Stmt, decl, set, step as steps_, print, input, if_, if_else, while_, do_, for_, block, break_, continue_, empty, omp, call, Stmts, no_stmts, more_stmts, MaybeStmt, no_stmt, a_stmt, Head, head, Param, Top, define, extern_, global, function, main}
+use Rattle.c_tree.specs.Placed.{Expr, Exprs, no_exprs, more_exprs, Target, target, Directive, Stmt, decl, set, step as steps_, print, input, if_, if_else, while_, do_, for_, block, break_, continue_, empty, omp, call, Stmts, no_stmts, more_stmts, MaybeStmt, no_stmt, a_stmt, head, Param, define, extern_, global, function, main}
 use Rattle.c_tree.specs.declared.tree.Span.{Span}
 use Rattle.c_tree.specs.declared.tree.Ty.{Ty}
 use Rattle.c_tree.specs.declared.tree.Ty.TheVariants as ty

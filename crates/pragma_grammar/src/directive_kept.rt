@@ -26,7 +26,7 @@ pub enum Kept<T> {
 }
 
 /// The list with one more.
-fn push<T: Drop>(list: Kept<Items<T>>, last: Kept<T>) -> Result<Kept<Items<T>>, AllocError>
+pub fn push<T: Drop>(list: Kept<Items<T>>, last: Kept<T>) -> Result<Kept<Items<T>>, AllocError>
     ensures { IfOk result (λ r. r ≡ pushed list last) }
 {
     match list {

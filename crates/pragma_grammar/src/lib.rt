@@ -1,10 +1,10 @@
 //! Expressions and directives: the grammar's relation between tokens and trees, and the readers that are exact by it.
 #![tactic(auto)]
 
-mod blame;
+pub mod blame;
 pub mod directive;
 mod directive_arguments;
-mod directive_kept;
+pub mod directive_kept;
 mod directive_reading;
 mod directive_state;
 pub mod expression;

@@ -1,4 +1,4 @@
-use Rattle.std.proofs.Common.{◌≡◌, ◌≤◌, subst, sym}
+use Rattle.std.proofs.Common.{◌≤◌, subst, sym}
 use Rattle.c_tree.specs.Forget.{forget_program}
 use Rattle.c_tree.specs.Height.{program_height}
 use Rattle.c_grammar.proofs.WellFormed.{texts_are_well_formed}
