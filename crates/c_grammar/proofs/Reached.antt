@@ -117,6 +117,27 @@ pub reach_only : (ts : List Token) (x : Goal) (t : Token) (items others : List S
 reach_only ts x t items others r q s =
     last_read (subst (λ m. Moves others m (symbol t) []) q (step_to others x (symbol t) [] (r.to others t [] refl [] (subst (Meets others gl.program_goal) (symbols_append r.before (t ∷ [])) (program_to others (symbols (r.before ++ t ∷ [])) (subst (λ l. SpellsItems others l) r.parts s))))))
 
+-- a token stands after what ends the program
+no_more : {p q : List Started} {t : Symbol} {ts : List Symbol} → AllRead p q (t ∷ ts) → ⊥
+no_more h = none_left h refl
+  where
+    none_left : {p q : List Started} {us : List Symbol} {t : Symbol} {ts : List Symbol} → AllRead p q us → us ≡ t ∷ ts → ⊥
+    none_left {t = t} {ts = ts} all_is_read e = absurd (let z : [] ≡ t ∷ ts = e in cc)
+
+pub reach_past : (ts : List Token) (x : Goal) (t u : Token) (rest : List Token) (items : List Started) → Reached ts x (t ∷ u ∷ rest) → gl.step x (symbol t) ≡ accepts items → Blame ts (blamed_as u rest) u.span.start
+reach_past ts x t u rest items r q =
+    record {
+      before = r.before ++ t ∷ [];
+      token = u;
+      rest = rest;
+      parts = r.parts ∙ sym (append_assoc r.before (t ∷ []) (u ∷ rest));
+      at_place = refl;
+      of_kind = refl;
+      begins = program_spelled items (r.before ++ t ∷ []) [] (subst (Meets items gl.program_goal) (sym (seam r.before (t ∷ []) [])) (r.from items t (u ∷ rest) refl [] (step_from items x (symbol t) [] (subst (λ m. Moves items m (symbol t) []) (sym q) all_is_read))));
+      none = λ program more s. no_more (subst (λ m. Moves s.items m (symbol t) (symbol u ∷ symbols more)) q (step_to s.items x (symbol t) (symbol u ∷ symbols more) (r.to s.items t (u ∷ rest) refl (symbol u ∷ symbols more)
+          (subst (Meets s.items gl.program_goal) (seam r.before (t ∷ []) (symbol u ∷ symbols more)) (unspelled program (r.before ++ t ∷ []) u more s)))));
+    }
+
 -- ---- expressions and directives in one step
 
 -- tokens that begin with the token of a fault, or before it
