@@ -1,0 +1,17 @@
+pub mod Comes
+pub mod Cursor
+pub mod Kept
+pub mod Phrases
+pub mod Terminals
+pub mod Simple
+pub mod Constants
+pub mod Items
+pub mod Globals
+pub mod Beginnings
+pub mod Bodies
+pub mod FunctionHeads
+pub mod Openings
+pub mod Heads
+pub mod Declarations
+pub mod Units
+pub mod Lists
