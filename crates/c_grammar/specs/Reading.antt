@@ -1,8 +1,8 @@
 -- What `parse` answers, in terms of the grammar alone.
-use Rattle.std.specs.Prelude.{◌≡◌, ℕ, List, [], ◌∷◌, ◌++◌, Option, Some, None}
+use Rattle.std.specs.Prelude.{◌≡◌, ℕ, ◌≤◌, List, [], ◌∷◌, ◌++◌, Option, Some, None}
 use Rattle.c_tree.specs.Placed.{Stmt, decl, set, step, print, input, if_, if_else, while_, do_, for_, block, break_, continue_, empty, omp, call, Stmts, no_stmts, more_stmts, MaybeStmt, no_stmt, a_stmt, Head, head, Target, target, Top, define, extern_, global, function, main, Program}
-use Rattle.c_tree.specs.Forget.{forget_stmt, forget_top}
-use Rattle.c_tree.specs.Height.{stmt_height, top_height}
+use Rattle.c_tree.specs.Forget.{forget_stmt, forget_top, forget_program}
+use Rattle.c_tree.specs.Height.{stmt_height, top_height, program_height}
 use Rattle.c_lexer.specs.declared.token.Token.{Token}
 use Rattle.pragma_grammar.specs.declared.phrase.ParseKind.{ParseKind}
 use Rattle.pragma_grammar.specs.Deep.{first, too_deep, deep_expr, deep_exprs, deep_option, deep_directive}
@@ -71,6 +71,10 @@ deep_top (main ss s) start = first (deep_stmts ss) (too_deep (top_height (forget
 abbrev pub deep_items : List Started → Option ℕ
 deep_items [] = None
 deep_items (item ∷ items) = first (deep_top item.top item.start) (deep_items items)
+
+-- some place is too deep exactly where the height is above 256
+abbrev pub DeepWhereAbove : List Started → Type 0
+DeepWhereAbove items = (deep_items items ≡ None → program_height (forget_program (tops_of items)) ≤ 256) × (program_height (forget_program (tops_of items)) ≤ 256 → deep_items items ≡ None)
 
 -- ---- the answer
 

@@ -8,8 +8,8 @@ ghost use Rattle.c_tree.specs.WellFormed.{WellFormed};
 ghost use Rattle.c_lexer.specs.Cut.{Cut};
 ghost use Rattle.c_lexer.specs.declared.token.Token.{Token};
 ghost use Rattle.pragma_grammar.specs.declared.phrase.ParseKind.{ParseKind};
-ghost use Rattle.c_grammar.specs.Programs.{Spells};
-ghost use Rattle.c_grammar.specs.Reading.{Blame, IsTree, IsTooDeep};
+ghost use Rattle.c_grammar.specs.Programs.{Spells, Started};
+ghost use Rattle.c_grammar.specs.Reading.{Blame, DeepWhereAbove, IsTree, IsTooDeep};
 
 /// What the tokens of a text spell is well formed.
 pub fn texts_are_well_formed()
@@ -20,6 +20,12 @@ pub fn texts_are_well_formed()
 pub fn trees_may_be_checked()
     ensures { (text : List ℕ) (tokens : List Token) (program : Program) → Cut text tokens → IsTree tokens program
         → WellFormed (forget_program program) × (program_height (forget_program program) ≤ 256) }
+{}
+
+/// A program is too deep somewhere exactly where its height is above 256.
+#[tactic(auto, using(crate::proofs::Shallow::deep_where_above))]
+pub fn programs_are_deep_where_above()
+    ensures { (items : List Started) → DeepWhereAbove items }
 {}
 
 /// Tokens are spelled by at most one tree: the grammar is not ambiguous (C11 6.8.4.1 for `else`).

@@ -26,6 +26,7 @@ pub mod Wholes
 pub mod ReadExpr
 pub mod LastToken
 pub mod OneTree
+pub mod DirectiveHeights
 pub mod Turns
 pub mod DirectiveExprs
 pub mod DirectiveTurns

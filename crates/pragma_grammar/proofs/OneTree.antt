@@ -37,7 +37,7 @@ one_expression ts h = one_by ts (outcome ts (want [])) refl h
 
 -- ---- heights
 
-both_none : (p q : Option ℕ) → p ≡ None → q ≡ None → first p q ≡ None
+pub both_none : (p q : Option ℕ) → p ≡ None → q ≡ None → first p q ≡ None
 both_none None q a b = b
 both_none (Some p) q a b = absurd (let z : Some p ≡ None = a in cc)
 
@@ -45,7 +45,7 @@ within_by : (b : Bool) (h start : ℕ) → nat_le 257 h ≡ b → h ≤ 256 → 
 within_by true h start q l = absurd (let k = leb-true 257 h q in omega arith)
 within_by false h start q l = refl
 
-within : (h start : ℕ) → h ≤ 256 → too_deep h start ≡ None
+pub within : (h start : ℕ) → h ≤ 256 → too_deep h start ≡ None
 within h start l = within_by (nat_le 257 h) h start refl l
 
 mutual

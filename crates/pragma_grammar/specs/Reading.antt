@@ -2,7 +2,7 @@
 use Rattle.std.specs.Prelude.{◌≡◌, ℕ, ◌-◌, ◌≤◌, ◌<◌, Bool, true, false, cond, List, [], ◌∷◌, ◌++◌, length, drop, slice_get, Option, Some, None, Result, Ok, Err}
 use Rattle.c_tree.specs.Placed.{Expr, Directive}
 use Rattle.c_tree.specs.PlacedOf.{placed_expr, placed_directive}
-use Rattle.c_tree.specs.Forget.{forget_expr}
+use Rattle.c_tree.specs.Forget.{forget_expr, forget_directive}
 use Rattle.c_tree.specs.BareOf.{bare_expr, bare_directive}
 use Rattle.c_tree.specs.Height.{expr_height, directive_height}
 use Rattle.c_tree.specs.declared.tree.Span.{Span}
@@ -117,6 +117,10 @@ SpelledDirective d ts us = DirectivePhrase true d ts us
 
 pub data EndsLine : List Symbol → Type 0 where
   ends_line : {s : Span} {ts : List Symbol} → EndsLine (line_end s ∷ ts)
+
+-- likewise of a directive
+abbrev pub DirectiveDeepWhereAbove : Directive → Type 0
+DirectiveDeepWhereAbove d = (deep_directive d ≡ None → directive_height (forget_directive d) ≤ 256) × (directive_height (forget_directive d) ≤ 256 → deep_directive d ≡ None)
 
 abbrev pub WholeDirective : List Symbol → Directive → List Symbol → Type 0
 WholeDirective = IsWhole Directive SpelledDirective EndsLine

@@ -1,10 +1,10 @@
 //! Laws over the definitions alone. Each stands on a function that does nothing.
 
 ghost use Rattle.std.specs.Prelude.{◌≡◌, List};
-ghost use Rattle.c_tree.specs.Placed.{Expr};
+ghost use Rattle.c_tree.specs.Placed.{Expr, Directive};
 ghost use Rattle.c_tree.specs.declared.tree.Span.{Span};
 ghost use Rattle.pragma_grammar.specs.Symbols.{Symbol, symbols};
-ghost use Rattle.pragma_grammar.specs.Reading.{EndsText, Stops, SpelledExpr, DeepWhereAbove};
+ghost use Rattle.pragma_grammar.specs.Reading.{EndsText, Stops, SpelledExpr, DeepWhereAbove, DirectiveDeepWhereAbove};
 
 use c_lexer::token::Token;
 
@@ -19,4 +19,10 @@ pub fn one_expression(tokens: &[Token])
 #[tactic(auto, using(crate::proofs::OneTree::deep_where_above))]
 pub fn deep_where_above()
     ensures { (e : Expr) → DeepWhereAbove e }
+{}
+
+/// A directive is too deep somewhere exactly where its height is above 256.
+#[tactic(auto, using(crate::proofs::DirectiveHeights::directive_deep_where_above))]
+pub fn directives_are_deep_where_above()
+    ensures { (d : Directive) → DirectiveDeepWhereAbove d }
 {}
