@@ -20,3 +20,6 @@ pub mod Declaring
 pub mod Passing
 pub mod Lists
 pub mod UnitsTaken
+pub mod FunctionsTaken
+pub mod TopsTaken
+pub mod Parsed

@@ -36,7 +36,7 @@ use Rattle.c_parser.specs.Cursor.{IsTaken, IsMayTaken}
 use Rattle.c_parser.specs.Simple.{IsConditionTaken}
 use Rattle.c_grammar.specs.Goals.{Goal, takes, expr, body, units, step, leads, begin, else_word, while_word, round_open, round_close, semicolon}
 use Rattle.c_parser.specs.Comes.{Comes, Leads, Fails}
-use Rattle.c_parser.specs.Bodies.{Owner, if_then, or_else, while_body, do_body, for_body, omp_body, Open, list, owner, Grown, IsOwner, IsOpen, After, after, after_body, after_stmt, BeginsAt, IsBegun}
+use Rattle.c_parser.specs.Bodies.{Owner, if_then, or_else, while_body, do_body, for_body, omp_body, Open, list, owner, Grown, IsOwner, IsOpen, After, after, after_body, after_stmt, BeginsBody, IsBegun}
 use Rattle.c_parser.specs.Units.{IsUnitTaken}
 use Rattle.c_parser.specs.Lists.{Stands, Means, goal, IsStep, IsListTaken}
 use Rattle.c_parser.specs.Kept.{stmt_of, stmts_of, head_of, keep_stmt, keep_stmts, join_last, node_of, pair}
@@ -257,8 +257,8 @@ pub record First (t : Token) (ts : List Token) (k : Terminal) (x : Beginning) : 
 does : (f : Stmts → Span → Goal) (t : Token) (ts : List Token) (k : Terminal) (x : Beginning) → First t ts k x → step (body f) (symbol t) ≡ embodies f x (symbol t)
 does f t ts k x i = embodies_as f (symbol t) ∙ ap (λ z. embodies f z (symbol t)) (ap beginning_of (sym i.terminal) ∙ sym i.beginning)
 
-begins_body : (f : Stmts → Span → Goal) (t : Token) (ts : List Token) (k : Terminal) (x : Beginning) → First t ts k x → (x ≡ b.CurlyOpen → ⊥) → BeginsAt (body f) (λ s z. f (more_stmts s no_stmts) z) ts
-begins_body f t ts k x i n = λ t' rest r.
+pub begins_body : (t : Token) (ts : List Token) (k : Terminal) (x : Beginning) → First t ts k x → (x ≡ b.CurlyOpen → ⊥) → BeginsBody ts
+begins_body t ts k x i n = λ f t' rest r.
     let q : t ∷ drop 1 ts ≡ t' ∷ rest = sym i.first ∙ r in
     let same : t ≡ t' = cc in
     subst (λ z. step (body f) (symbol z) ≡ begin (λ s z. f (more_stmts s no_stmts) z) (symbol z)) same (does f t ts k x i ∙ embodies_other f (symbol t) x n)
@@ -274,21 +274,21 @@ body_opens fs gs holder none a t ts us e x i c r p n = λ k m s. (
       (does (after_body m.0 (after f k).stmt) t ts e x i ∙ ap (λ z. embodies (after_body m.0 (after f k).stmt) z (symbol t)) c),
 )
 
-pub body_whole : (fs : List Frame) (holder : code_owner.Owner) (stmt : code.Kept code_stmt.Stmt) (stmts : code.Kept (List code_stmt.Stmt)) (last : Span) (t : Token) (ts us : List Token) (k : Terminal) (x : Beginning)
-    → First t ts k x → (x ≡ b.CurlyOpen → ⊥) → IsBegun ts (Ok (begun.Whole stmt last)) us → ((s : Stmt) → stmt_of stmt ≡ keep_stmt s → stmts_of stmts ≡ keep_stmts (more_stmts s no_stmts))
-    → IsStep fs (v.Body holder) ts (Ok (Goes (v.Closed holder stmts last))) fs us
-body_whole fs holder stmt stmts last t ts us e x i n h g = λ k m s.
-    (k, (m.0, m.1, more_stmts h.0 no_stmts, g h.0 h.1), s, λ f. h.2 (body (after_body m.0 (after f k).stmt)) (λ s z. after_body m.0 (after f k).stmt (more_stmts s no_stmts) z) (begins_body (after_body m.0 (after f k).stmt) t ts e x i n))
+pub body_whole : (fs gs : List Frame) (holder : code_owner.Owner) (stmt : code.Kept code_stmt.Stmt) (last : Span) (ts us : List Token)
+    → BeginsBody ts → IsBegun ts (Ok (begun.Whole stmt last)) us → gs ≡ fs ++ fr.Owner holder ∷ []
+    → IsStep fs (v.Body holder) ts (Ok (Goes (v.Ended stmt last))) gs us
+body_whole fs gs holder stmt last ts us b h p = λ k m s.
+    (owner m.0 ∷ k, (h.0, h.1), (fs, fr.Owner holder, p, m.1, s), λ f. h.2 (body (after_body m.0 (after f k).stmt)) (λ s z. after_body m.0 (after f k).stmt (more_stmts s no_stmts) z) (b (after_body m.0 (after f k).stmt)))
 
-pub body_in_body : (fs gs : List Frame) (holder inside : code_owner.Owner) (t : Token) (ts us : List Token) (k : Terminal) (x : Beginning)
-    → First t ts k x → (x ≡ b.CurlyOpen → ⊥) → IsBegun ts (Ok (begun.Opens inside)) us → gs ≡ fs ++ fr.Owner holder ∷ []
+pub body_in_body : (fs gs : List Frame) (holder inside : code_owner.Owner) (ts us : List Token)
+    → BeginsBody ts → IsBegun ts (Ok (begun.Opens inside)) us → gs ≡ fs ++ fr.Owner holder ∷ []
     → IsStep fs (v.Body holder) ts (Ok (Goes (v.Body inside))) gs us
-body_in_body fs gs holder inside t ts us e x i n h p = λ k m s.
-    (owner m.0 ∷ k, (h.0, h.1), (fs, fr.Owner holder, p, m.1, s), λ f. h.2 (body (after_body m.0 (after f k).stmt)) (λ s z. after_body m.0 (after f k).stmt (more_stmts s no_stmts) z) (begins_body (after_body m.0 (after f k).stmt) t ts e x i n))
+body_in_body fs gs holder inside ts us b h p = λ k m s.
+    (owner m.0 ∷ k, (h.0, h.1), (fs, fr.Owner holder, p, m.1, s), λ f. h.2 (body (after_body m.0 (after f k).stmt)) (λ s z. after_body m.0 (after f k).stmt (more_stmts s no_stmts) z) (b (after_body m.0 (after f k).stmt)))
 
-pub no_body : (fs gs : List Frame) (holder : code_owner.Owner) (fault : ParseFault) (t : Token) (ts us vs : List Token) (k : Terminal) (x : Beginning)
-    → First t ts k x → (x ≡ b.CurlyOpen → ⊥) → IsBegun ts (Err fault) us → IsStep fs (v.Body holder) ts (Err fault) gs vs
-no_body fs gs holder fault t ts us vs e x i n h = λ k m s f. h (body (after_body m.0 (after f k).stmt)) (λ s z. after_body m.0 (after f k).stmt (more_stmts s no_stmts) z) (begins_body (after_body m.0 (after f k).stmt) t ts e x i n)
+pub no_body : (fs gs : List Frame) (holder : code_owner.Owner) (fault : ParseFault) (ts us vs : List Token)
+    → BeginsBody ts → IsBegun ts (Err fault) us → IsStep fs (v.Body holder) ts (Err fault) gs vs
+no_body fs gs holder fault ts us vs b h = λ k m s f. h (body (after_body m.0 (after f k).stmt)) (λ s z. after_body m.0 (after f k).stmt (more_stmts s no_stmts) z) (b (after_body m.0 (after f k).stmt))
 
 -- ---- a unit
 
@@ -346,6 +346,9 @@ lessens_popped fs x n a b l = rw (length-append fs (x ∷ [])) (omega arith)
 
 pub lessens_pushed : (fs gs : List Frame) (x : Frame) (n m : ℕ) → gs ≡ fs ++ x ∷ [] → n < m → 4 * n + (2 * length gs + 0) < 4 * m + (2 * length fs + 0)
 lessens_pushed fs gs x n m q l = let p : length gs ≡ length fs + 1 = ap length q ∙ length-append fs (x ∷ []) in omega arith
+
+pub lessens_ended : (fs gs : List Frame) (x : Frame) (n m : ℕ) → gs ≡ fs ++ x ∷ [] → n < m → 4 * n + (2 * length gs + 1) < 4 * m + (2 * length fs + 0)
+lessens_ended fs gs x n m q l = let p : length gs ≡ length fs + 1 = ap length q ∙ length-append fs (x ∷ []) in omega arith
 
 pub lessens_kept : (fs : List Frame) (n m a b : ℕ) → n ≤ m → a < b → 4 * n + (2 * length fs + a) < 4 * m + (2 * length fs + b)
 lessens_kept fs n m a b l k = omega arith

@@ -92,6 +92,10 @@ IsOpen (v.Owner code) (list b before a) = ⊥
 abbrev pub BeginsAt : Goal → (Stmt → Span → Goal) → List Token → Type 0
 BeginsAt x f ts = (t : Token) (rest : List Token) → ts ≡ t ∷ rest → step x (symbol t) ≡ begin f (symbol t)
 
+-- the first token does to a body what it does where its one statement begins
+abbrev pub BeginsBody : List Token → Type 0
+BeginsBody ts = (f : Stmts → Span → Goal) → BeginsAt (body f) (λ s z. f (more_stmts s no_stmts) z) ts
+
 -- a whole statement was taken, or one through what stands before its body: some token in any case
 abbrev pub IsBegun : List Token → Result Begun ParseFault → List Token → Type 0
 IsBegun ts (Ok (b.Whole stmt last)) us = (s : Stmt) × (stmt_of stmt ≡ keep_stmt s) × ((x : Goal) (f : Stmt → Span → Goal) → BeginsAt x f ts → Leads x ts (f s last) us) × (length us < length ts)

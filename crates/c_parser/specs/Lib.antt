@@ -15,3 +15,4 @@ pub mod Heads
 pub mod Declarations
 pub mod Units
 pub mod Lists
+pub mod Parsing

@@ -4,19 +4,23 @@ ghost use Rattle.std.specs.Prelude.{◌≡◌, ◌++◌, ◌∷◌, [], List, Ok
 ghost use Rattle.c_tree.specs.Placed as placed;
 ghost use Rattle.c_lexer.specs.declared.token.Token.{Token};
 ghost use Rattle.c_parser.specs.declared.owners.Frame as kinds;
-ghost use Rattle.c_parser.specs.Bodies.{Grown};
+ghost use Rattle.c_parser.specs.declared.owners.Owner as holders;
+ghost use Rattle.c_parser.specs.Bodies.{Grown, BeginsBody};
 ghost use Rattle.c_parser.specs.Kept.{stmt_of, stmts_of, keep_stmt, keep_stmts};
 ghost use Rattle.c_parser.specs.Lists.{IsStep, Lessens, IsListTaken};
 
+use crate::begin::begin;
+use crate::beginnings::{Beginning, beginning_of};
 use crate::cursor::{Class, Cursor};
 use crate::nodes::{add_stmt, block, construct, do_loop, for_loop, if_else, if_only, while_loop};
-use crate::owners::{Frame, OpenList, Owner};
+use crate::owners::{Begun, Frame, OpenList, Owner};
 use crate::simple::spanning;
 use crate::statements::condition;
 use crate::units::{UnitRead, no_stmts, unit};
 use c_tree::tree::{Expr, Span, Stmt, StmtList};
 use pragma_grammar::directive_kept::Kept;
 use pragma_grammar::phrase::ParseFault;
+use pragma_grammar::terminal::terminal_of;
 use std::alloc::{AllocError, Global};
 
 /// What is read next: units of a list, or the body of a statement; or what was read: the body of a statement, a list in
@@ -198,6 +202,53 @@ fn after_unit(
     }
 }
 
+/// Reads the beginning of a body's one statement.
+fn stmt_of_body(alloc: Global, cursor: &mut Cursor) -> Result<Step, ParseFault>
+    requires { BeginsBody cursor.old }
+    ensures steps { (outer : List kinds.Frame) (owner : holders.Owner) → IsStep outer (State.Body owner) cursor.old result (outer ++ Frame.Owner owner ∷ []) cursor.new }
+    ensures lessens { (outer : List kinds.Frame) (owner : holders.Owner) → Lessens outer (State.Body owner) cursor.old result (outer ++ Frame.Owner owner ∷ []) cursor.new }
+{
+    match begin(alloc, cursor)? {
+        Begun::Whole { stmt, last } => Ok(Step::Goes(State::Ended { stmt, last })),
+        Begun::Opens(inner) => Ok(Step::Goes(State::Body(inner))),
+    }
+}
+
+/// Reads the beginning of a body, whose owner is a frame by then: `{` opens a list, and anything else begins its one
+/// statement.
+fn begin_body(alloc: Global, cursor: &mut Cursor) -> Result<Step, ParseFault>
+    ensures steps { (outer : List kinds.Frame) (owner : holders.Owner) → IsStep outer (State.Body owner) cursor.old result (outer ++ Frame.Owner owner ∷ []) cursor.new }
+    ensures lessens { (outer : List kinds.Frame) (owner : holders.Owner) → Lessens outer (State.Body owner) cursor.old result (outer ++ Frame.Owner owner ∷ []) cursor.new }
+{
+    let token = cursor.first();
+    let at = token.span;
+    match beginning_of(terminal_of(token)) {
+        Beginning::CurlyOpen => {
+            cursor.advance();
+            Ok(Step::Goes(State::Units(OpenList {
+                ends_main: false,
+                stmts: no_stmts(alloc),
+                at,
+            })))
+        }
+        _ => stmt_of_body(alloc, cursor),
+    }
+}
+
+/// Opens the frame of a body's owner, and reads the beginning of the body.
+fn after_body(
+    alloc: Global,
+    cursor: &mut Cursor,
+    frames: &mut Vec<Frame>,
+    owner: Owner,
+) -> Result<Step, ParseFault>
+    ensures steps { IsStep frames.old.items (State.Body owner) cursor.old result frames.new.items cursor.new }
+    ensures lessens { Lessens frames.old.items (State.Body owner) cursor.old result frames.new.items cursor.new }
+{
+    push_frame(frames, Frame::Owner(owner))?;
+    begin_body(alloc, cursor)
+}
+
 /// After the first body of an `if`: `else`, or the end.
 fn after_then(
     cursor: &mut Cursor,
@@ -272,5 +323,48 @@ fn finish(
             stmt: construct(directive, stmts, spanning(at, last)),
             last,
         })),
+    }
+}
+
+/// One step of reading.
+fn take_step(
+    alloc: Global,
+    cursor: &mut Cursor,
+    frames: &mut Vec<Frame>,
+    state: State,
+) -> Result<Step, ParseFault>
+    ensures steps { IsStep frames.old.items state cursor.old result frames.new.items cursor.new }
+    ensures lessens { Lessens frames.old.items state cursor.old result frames.new.items cursor.new }
+{
+    match state {
+        State::Units(list) => after_unit(alloc, cursor, frames, list),
+        State::Body(owner) => after_body(alloc, cursor, frames, owner),
+        State::Closed { owner, stmts, last } => finish(alloc, cursor, owner, stmts, last),
+        State::Listed { stmts, at, last } => after_list(frames, stmts, at, last),
+        State::Ended { stmt, last } => after_stmt(alloc, frames, stmt, last),
+    }
+}
+
+/// Takes the statements of a list whose `{` stands at `at`, through its `}`, with the place of that. The list may end
+/// with `return 0;` if it is that of `main`.
+pub fn stmts_of_list(
+    alloc: Global,
+    cursor: &mut Cursor,
+    ends_main: bool,
+    at: Span,
+) -> Result<(Kept<StmtList>, Span), ParseFault>
+    ensures { IsListTaken ends_main cursor.old result cursor.new }
+{
+    let mut frames = Vec::new(alloc);
+    let mut state = State::Units(OpenList {
+        ends_main,
+        stmts: no_stmts(alloc),
+        at,
+    });
+    'steps: loop {
+        match take_step(alloc, cursor, &mut frames, state)? {
+            Step::Goes(next) => state = next,
+            Step::Done { stmts, last } => return Ok((stmts, last)),
+        }
     }
 }
