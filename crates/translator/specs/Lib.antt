@@ -1,3 +1,3 @@
 pub mod FirstText
-pub mod Answer
+pub mod Answers
 pub mod Intake

@@ -1,4 +1,4 @@
-//! Reads the one shape of text that is translated so far.
+//! Recognizes the one shape with a directive that is translated so far, by its printed form.
 
 ghost use Rattle.std.specs.Prelude.{◌≡◌, ℕ, List, ◌++◌, IfSome, IfNone, IsSomeAnd, IsSome, decimal, ◌≤◌, length, take_while, Some, IsTrue, ◌↔◌, ◌<◌, ◌^◌};
 ghost use Rattle.std.specs.Char.{is_ascii_digit};
@@ -17,11 +17,11 @@ pub struct Bounds {
 const GREATEST: u32 = 2_147_483_647;
 
 const BEFORE: &[u8] =
-    b"void print(long long);\nint main(void) {\n#pragma omp reverse\nfor (int i = ";
+    b"extern void print(long long);\nint main(void) {\n    #pragma omp reverse\n    for (int i = ";
 
 const BETWEEN: &[u8] = b"; i < ";
 
-const AFTER: &[u8] = b"; i++) print(i);\n}\n";
+const AFTER: &[u8] = b"; i++) {\n        print(i);\n    }\n    return 0;\n}\n";
 
 /// How many digits stand at the front.
 fn digit_count(text: &[u8]) -> usize

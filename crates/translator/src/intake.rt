@@ -1,10 +1,11 @@
 //! A text as it comes in, piece by piece.
 
-ghost use Rattle.std.specs.Prelude.{◌≡◌, ℕ, List, [], IfOk, IfErr};
+ghost use Rattle.std.specs.Prelude.{◌≡◌, ℕ, List, [], MatchResult};
 ghost use Rattle.c_lexer.specs.Cut.{Cut, IsFault};
 ghost use Rattle.c_lexer.specs.Lines.{MapsLines};
 ghost use Rattle.translator.specs.Intake.{StandsFor};
 
+use crate::positions::Positions;
 use c_lexer::lexer::Lexer;
 use c_lexer::line_map::LineMap;
 use c_lexer::token::{LexFault, Token};
@@ -17,6 +18,7 @@ use std::marker::Model;
 pub struct Intake {
     lexer: Lexer,
     lines: LineMap,
+    length: u64,
 }
 
 impl Model for Intake {
@@ -27,7 +29,7 @@ impl Model for Intake {
 
     ghost view = { λ intake. record { lexing = intake.lexer; lines = intake.lines } };
 
-    ghost invariant = { λ intake. intake.lexer.count ≡ intake.lines.count };
+    ghost invariant = { λ intake. (intake.lexer.count ≡ intake.lines.count) × (intake.length ≡ intake.lines.count) };
 }
 
 impl Intake {
@@ -39,17 +41,21 @@ impl Intake {
         Intake {
             lexer: Lexer::new(alloc),
             lines: LineMap::new(alloc),
+            length: 0,
         }
     }
 
-    /// The tokens of the text that was taken, or its first lexical fault, and the map of its lines.
-    pub fn finish(self) -> (Result<Vec<Token>, LexFault>, LineMap)
-        ensures cut { (text : List ℕ) → StandsFor self text → IfOk result.0 (λ tokens. Cut text tokens.items) }
-        ensures fault { (text : List ℕ) → StandsFor self text → IfErr result.0 (λ fault. IsFault text fault) }
-        ensures lines { (text : List ℕ) → StandsFor self text → MapsLines result.1 text }
+    /// The tokens of the text that was taken, or its first lexical fault, and the positions of its places.
+    pub fn finish(self) -> (Result<Vec<Token>, LexFault>, Positions)
+        ensures cut { (text : List ℕ) → StandsFor self text → MatchResult result.0 (λ tokens. Cut text tokens.items) (IsFault text) }
+        ensures positions { (text : List ℕ) → StandsFor self text → MapsLines result.1 text }
     {
-        let Intake { lexer, lines } = self;
-        (lexer.finish(), lines)
+        let Intake {
+            lexer,
+            lines,
+            length,
+        } = self;
+        (lexer.finish(), Positions::new(lines, length))
     }
 }
 
@@ -63,6 +69,7 @@ impl Taker for Intake {
         self.lines.room(piece)?;
         self.lexer.feed(piece)?;
         self.lines.feed(piece);
+        self.length += piece.len() as u64;
         Ok(())
     }
 }

@@ -3,5 +3,11 @@
 
 pub mod first_text;
 pub mod intake;
+pub mod laws;
+pub mod positions;
 pub mod refusal;
+pub mod reversed_loop;
+#[cfg(test)]
+mod tests;
 pub mod translate;
+pub mod tree;

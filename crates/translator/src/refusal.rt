@@ -1,10 +1,50 @@
 //! Why a text is refused.
 
-/// Why a text has no translation.
+ghost use Rattle.std.specs.Prelude.{ℕ, List};
+ghost use Rattle.c_lexer.specs.Cut.{IsFault};
+ghost use Rattle.translator.specs.Answers.{Purpose, IsRefused};
+
+use c_lexer::token::{LexFault, LexKind};
+use c_tree::name_rule::NameRule;
+use pragma_grammar::phrase::ParseKind;
+use std::alloc::AllocError;
+
+/// Why a text has no translation. Each place is a byte offset in the text.
 #[derive(Clone, Copy, Debug, PartialEq, Eq)]
 pub enum Refusal {
-    /// The text is outside of what is built so far. The place is the byte offset at which it is.
+    /// It can't be cut into tokens: the first lexical fault.
+    Lex(LexKind, u64),
+
+    /// Its tokens spell no program, or one that is nested too deeply.
+    Parse(ParseKind, u64),
+
+    /// Its program breaks a name rule: the least breach, by place and then by rule.
+    Names(NameRule, u64),
+
+    /// Its program has a directive that isn't carried out yet: the first directive's place.
     NotBuilt(u64),
+
     /// There was no memory for the answer.
     Memory,
+}
+
+impl From<AllocError> for Refusal {
+    ghost use Rattle.std.specs.Prelude.{◌≡◌};
+    ghost use Rattle.translator.specs.declared.refusal.Refusal.TheVariants.{Memory};
+
+    ghost from_gives = { λ _ refusal. refusal ≡ Memory };
+
+    fn from(_: AllocError) -> Refusal {
+        Refusal::Memory
+    }
+}
+
+/// The refusal that a lexical fault is.
+pub fn lexical(fault: LexFault) -> Refusal
+    ensures { (purpose : Purpose) → (text : List ℕ) → IsFault text fault → IsRefused purpose result text }
+{
+    match fault {
+        LexFault::At(kind, place) => Refusal::Lex(kind, place),
+        LexFault::Memory => Refusal::Memory,
+    }
 }

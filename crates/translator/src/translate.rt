@@ -1,73 +1,80 @@
 //! Translates a text.
 
-ghost use Rattle.std.specs.Prelude.{◌≡◌, IfOk, IfErr, ◌++◌, decimal};
-ghost use Rattle.translator.specs.Answer.{IsTranslation, IsCauseOf, reversed_text, before_from, before_to, after_to};
+ghost use Rattle.std.specs.Prelude.{◌≡◌, ℕ, ◌<◌, ◌≤◌, ◌^◌, List, IfOk, IfErr, OnOk, MatchResult, length};
+ghost use Rattle.c_tree.specs.PlacedOf.{placed_program};
+ghost use Rattle.c_lexer.specs.Cut.{Cut, IsFault};
+ghost use Rattle.translator.specs.Answers.{IsRefused, IsWritten, TokensRefused, IsUnbuilt, translation, IsProgramWritten, IsAccepted};
 
-use crate::first_text::{Bounds, loop_bounds};
-use crate::refusal::Refusal;
-use itoa::Buffer;
-use std::alloc::{AllocError, Global};
+use crate::first_text::loop_bounds;
+use crate::refusal::{Refusal, lexical};
+use crate::reversed_loop::reversed_loop;
+use crate::tree::checked_tree;
+use c_lexer::lexer::lex;
+use c_lexer::token::{LexFault, Token};
+use c_printer::laws::reads_back;
+use c_printer::printer::print;
+use c_tree::checked::Checked;
+use c_tree::laws::places_only_are_forgotten;
+use canonical_nests::first_directive::first_directive;
+use std::alloc::Global;
 
-const BEFORE_FROM: &[u8] =
-    b"extern void print(long long);\nint main(void) {\n    {\n        int omp_t0 = ";
-
-const BEFORE_TO: &[u8] = b";\n        int omp_t1 = ";
-
-const AFTER_TO: &[u8] =
-    b";\n        long long omp_t2 = omp_t0 < omp_t1 ? ((long long)omp_t1 - (long long)omp_t0 - 1LL) / 1LL + 1LL : 0LL;\n        for (long long omp_t4 = 0LL; omp_t4 < omp_t2; omp_t4++) {\n            long long omp_t3 = omp_t2 - 1LL - omp_t4;\n            int i = (int)((long long)omp_t0 + omp_t3 * 1LL);\n            {\n                print(i);\n            }\n        }\n    }\n    return 0;\n}\n";
-
-/// The plain C before the first bound.
-#[tactic(auto, unfolding(crate::specs::Answer::before_from))]
-fn before_first() -> &'static [u8]
-    ensures { result.now ≡ before_from }
+/// What is written for a program.
+fn written(alloc: Global, checked: &Checked) -> Result<Vec<u8>, Refusal>
+    ensures written { IfOk result (λ bytes. IsProgramWritten (placed_program checked.now) bytes.items) }
+    ensures refused { IfErr result (λ refusal. IsUnbuilt translation refusal (placed_program checked.now)) }
 {
-    BEFORE_FROM
+    places_only_are_forgotten(checked.program());
+    let printed = print(alloc, checked.program())?;
+    match first_directive(checked.program()) {
+        None => Ok(printed),
+        Some(place) => match loop_bounds(printed.as_slice()) {
+            Some(bounds) => Ok(reversed_loop(alloc, bounds)?),
+            None => Err(Refusal::NotBuilt(place)),
+        },
+    }
 }
 
-/// The plain C between the bounds.
-#[tactic(auto, unfolding(crate::specs::Answer::before_to))]
-fn before_second() -> &'static [u8]
-    ensures { result.now ≡ before_to }
-{
-    BEFORE_TO
-}
-
-/// The plain C after the second bound.
-#[tactic(auto, unfolding(crate::specs::Answer::after_to))]
-fn after_second() -> &'static [u8]
-    ensures { result.now ≡ after_to }
-{
-    AFTER_TO
-}
-
-/// The reversed loop with these bounds in plain C.
-fn reversed_loop(alloc: Global, bounds: Bounds) -> Result<Vec<u8>, AllocError>
-    ensures { IfOk result (λ written. written.items ≡ reversed_text bounds.from bounds.to) }
-{
-    let mut buffer = Buffer::new();
-    let mut written = Vec::from_slice(alloc, before_first())?;
-    written.extend_from_slice(buffer.format(bounds.from).as_bytes())?;
-    written.extend_from_slice(before_second())?;
-    written.extend_from_slice(buffer.format(bounds.to).as_bytes())?;
-    written.extend_from_slice(after_second())?;
-    Ok(written)
-}
-
-/// The text with its loop transformations carried out, in plain C.
+/// The translation of a text with these tokens: the printed form of its program, in which the directives are carried out.
 ///
 /// # Errors
 ///
-/// `NotBuilt(0)` exactly where the text isn't the one shape that is translated so far: a reversed loop that prints
-/// its variable, with bounds that an `int` holds. `Memory` where there is no memory for the answer.
-pub fn translate(alloc: Global, text: &[u8]) -> Result<Vec<u8>, Refusal>
-    ensures translated { IfOk result (λ written. IsTranslation text.now written.items) }
-    ensures refused { IfErr result (λ refusal. IsCauseOf refusal text.now) }
+/// `Parse`, `Names` and `NotBuilt` exactly where they are the first that applies. `Memory` where there is no memory for
+/// the answer.
+pub fn translate_tokens(alloc: Global, tokens: &[Token]) -> Result<Vec<u8>, Refusal>
+    requires { (text : List ℕ) × Cut text tokens.now }
+    ensures written { (text : List ℕ) → Cut text tokens.now → IfOk result (λ written. IsWritten text written.items) }
+    ensures accepted { (text : List ℕ) → Cut text tokens.now → OnOk result (IsAccepted translation text) }
+    ensures refused { IfErr result (λ refusal. TokensRefused translation refusal tokens.now) }
 {
-    match loop_bounds(text) {
-        None => Err(Refusal::NotBuilt(0)),
-        Some(found) => match reversed_loop(alloc, found) {
-            Ok(written) => Ok(written),
-            Err(_) => Err(Refusal::Memory),
-        },
+    reads_back();
+    let checked = checked_tree(alloc, tokens)?;
+    places_only_are_forgotten(checked.program());
+    written(alloc, &checked)
+}
+
+/// The translation of a text that was cut into tokens, or has a lexical fault.
+///
+/// # Errors
+///
+/// `Lex` exactly where a lexical fault is the first that applies; the others are those of [`translate_tokens`].
+pub fn translate_cut(alloc: Global, cut: Result<Vec<Token>, LexFault>) -> Result<Vec<u8>, Refusal>
+    requires { (text : List ℕ) × MatchResult cut (λ tokens. Cut text tokens.items) (IsFault text) }
+    ensures written { (text : List ℕ) → MatchResult cut (λ tokens. Cut text tokens.items) (IsFault text) → IfOk result (λ written. IsWritten text written.items) }
+    ensures accepted { (text : List ℕ) → MatchResult cut (λ tokens. Cut text tokens.items) (IsFault text) → OnOk result (IsAccepted translation text) }
+    ensures refused { (text : List ℕ) → MatchResult cut (λ tokens. Cut text tokens.items) (IsFault text) → IfErr result (λ refusal. IsRefused translation refusal text) }
+{
+    match cut {
+        Ok(tokens) => translate_tokens(alloc, tokens.as_slice()),
+        Err(fault) => Err(lexical(fault)),
     }
+}
+
+/// The translation of a text, with the errors of [`translate_cut`].
+pub fn translate(alloc: Global, text: &[u8]) -> Result<Vec<u8>, Refusal>
+    requires { length text.now < 2 ^ 63 }
+    ensures written { IfOk result (λ written. IsWritten text.now written.items) }
+    ensures accepted { OnOk result (IsAccepted translation text.now) }
+    ensures refused { IfErr result (λ refusal. IsRefused translation refusal text.now) }
+{
+    translate_cut(alloc, lex(alloc, text))
 }
