@@ -1,2 +1,4 @@
 -- The lemmas of this crate.
 pub mod Numbers
+pub mod Telling
+pub mod Commands

@@ -1,5 +1,5 @@
 -- Words, and the numbers that they spell.
-use Rattle.std.proofs.Common.{◌≡◌, ℕ, ◌<◌, ◌≤◌, ℤ, List, [], ◌∷◌, length, map, take, drop, slice_index_or, ◌-◌, ap, sym, ◌∙◌, arith, codes}
+use Rattle.std.proofs.Common.{refl, ◌≡◌, ℕ, ◌<◌, ◌≤◌, ℤ, List, [], ◌∷◌, length, map, take, drop, slice_index_or, ◌-◌, ap, sym, ◌∙◌, arith, codes}
 use Rattle.std.proofs.Math.Seq.{take-length}
 use Rattle.loopx.specs.Words.{IsBound, IsNumber, AreNumbers, AllNumbers, Command, translate, run, Asks}
 
@@ -28,3 +28,15 @@ all_of_numbers [] [] are = tt
 all_of_numbers [] (z ∷ zs) are = absurd are
 all_of_numbers (word ∷ words) [] are = absurd are
 all_of_numbers (word ∷ words) (z ∷ zs) are = ((z, are.0), all_of_numbers words zs are.1)
+
+-- words spell at most one list of numbers
+pub numbers_once : (words : List (List ℕ)) (ys zs : List ℤ) → AreNumbers words ys → AreNumbers words zs → ys ≡ zs
+numbers_once [] [] [] h k = refl
+numbers_once [] [] (z ∷ zs) h k = absurd k
+numbers_once [] (y ∷ ys) zs h k = absurd h
+numbers_once (word ∷ words) [] zs h k = absurd h
+numbers_once (word ∷ words) (y ∷ ys) [] h k = absurd k
+numbers_once (word ∷ words) (y ∷ ys) (z ∷ zs) h k =
+    let same : y ≡ z = h.0.value ∙ sym k.0.value in
+    let rest : ys ≡ zs = numbers_once words ys zs h.1 k.1 in
+    rw (same, rest) refl

@@ -39,7 +39,3 @@ Asks words (run bound numbers) =
 -- the words are in no list
 abbrev pub AskForNothing : List (List ℕ) → Type 0
 AskForNothing words = (command : Command) → Asks words command → ⊥
-
--- the one word `translate`
-abbrev pub IsTranslate : List (List ℕ) → Type 0
-IsTranslate words = words ≡ codes "translate" ∷ []

@@ -1,11 +1,17 @@
-//! The program: carries out the loop-transforming directives in a C text from standard input, and writes plain C.
+//! The program: carries out the loop-transforming directives in a C text from standard input, and writes plain C, or runs
+//! it.
 #![tactic(auto)]
 
 mod command;
+mod line;
+mod reading;
 mod run;
+mod running;
 mod status;
 #[cfg(test)]
 mod tests;
+mod told;
+mod translating;
 mod words;
 
 use outside_io::{StdSink, StdSource};

@@ -1,14 +1,14 @@
-//! The answers of the program, and how each is told.
+//! The answers of the program, and the exit statuses that tell them.
 
 ghost use Rattle.std.specs.Prelude.{◌≡◌};
-ghost use Rattle.loopx.specs.Status.{diagnostic, exit_status};
+ghost use Rattle.loopx.specs.Status.{exit_status};
 
 /// How the program answers. The exit statuses are the places of the variants, from 0.
 #[derive(Clone, Copy, Debug, PartialEq, Eq)]
 pub enum Status {
     /// All is written.
     Done,
-    /// The text has no translation; a line on the diagnostic stream says why.
+    /// The text is refused; a line on the diagnostic stream says why.
     Refused,
     /// The words are in no written list.
     Usage,
@@ -20,6 +20,10 @@ pub enum Status {
     Memory,
     /// The source has more than 2^24 bytes.
     TooLong,
+    /// The run ended by a trap; a line on the diagnostic stream says by which.
+    Trapped,
+    /// The run was cut off, where a loop asked for a turn beyond the bound.
+    Cut,
 }
 
 /// The exit status that tells the answer.
@@ -27,18 +31,4 @@ pub fn exit_code(status: Status) -> u8
     ensures { result ≡ exit_status status }
 {
     status as u8
-}
-
-/// What the diagnostic stream gets at each answer: a line, or nothing where all is done.
-pub fn message(status: Status) -> &'static [u8]
-    ensures { result.now ≡ diagnostic status }
-{
-    match status {
-        Status::Done | Status::WriteFault => b"",
-        Status::Refused => b"1:1: NotBuilt not built yet\n",
-        Status::Usage => b"usage: loopx translate\n",
-        Status::ReadFault => b"read failed\n",
-        Status::Memory => b"out of memory\n",
-        Status::TooLong => b"text too long\n",
-    }
 }

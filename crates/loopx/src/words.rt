@@ -1,7 +1,4 @@
-//! The words of the command line, and which command they name.
-
-ghost use Rattle.std.specs.Prelude.{IsTrue, ◌↔◌, map, string_bytes, codes, ◌≡◌};
-ghost use Rattle.loopx.specs.Words.{IsTranslate};
+//! The words of the command line.
 
 use std::env;
 use std::io::ErrorKind;
@@ -23,22 +20,5 @@ pub fn program_words<R: Env + AllocGlobal>(rt: &R) -> Result<Vec<String>, u8> {
             ErrorKind::OutOfMemory => Err(NO_MEMORY),
             _ => Err(NO_WORDS),
         },
-    }
-}
-
-/// Is the word `translate`?
-fn names_translate(word: &String) -> bool
-    ensures { IsTrue result ↔ (string_bytes word.now ≡ codes "translate") }
-{
-    word.as_str() == "translate"
-}
-
-/// Are the words the one word `translate`?
-pub fn is_translate(words: &[String]) -> bool
-    ensures { IsTrue result ↔ IsTranslate (map string_bytes words.now) }
-{
-    match words {
-        [word] => names_translate(word),
-        _ => false,
     }
 }
