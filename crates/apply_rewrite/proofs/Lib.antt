@@ -2,3 +2,12 @@ pub mod Breaks
 pub mod Stacks
 pub mod Congruent
 pub mod Programs
+pub mod NamesMore
+pub mod HeadNames
+pub mod SpentNames
+pub mod OneLoop
+pub mod CarriedOut
+pub mod Items
+pub mod SourceNames
+pub mod Skeletons
+pub mod WellFormedCode

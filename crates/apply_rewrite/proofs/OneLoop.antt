@@ -1,0 +1,61 @@
+-- The generated code of one loop under stacked reverse directives.
+use Rattle.std.proofs.Common.{◌≡◌, refl, ℕ, zero, suc, List, [], ◌∷◌, Bool, true, false}
+use Rattle.c_tree.specs.Bare.{Name, Expr, read, bin, Stmts, no_stmts}
+use Rattle.c_tree.specs.declared.tree.BinOp.{BinOp}
+use Rattle.c_tree.specs.declared.tree.BinOp.TheVariants.{Sub, Lt, Gt, Le, Ge, Ne}
+use Rattle.c_semantics.specs.Laws.Names.{Names, UsesAll}
+use Rattle.loop_normal.specs.Gens.{gen_loop, Seq, Looped, Plain, Parts, no_parts, more_parts, Gen, let_stmt, parts_stmts, emit}
+use Rattle.loop_normal.specs.Templates.{ll, only, LoopNames, SourceLoop, source_front, count_by, signed_literal, is_up, value_expr}
+use Rattle.loop_normal.specs.DrawnNames.{FreshNames, drawn, after_draw, after_draws}
+use Rattle.apply_rewrite.specs.NoBreaks.{NoBreaks}
+use Rattle.apply_rewrite.specs.NoDirectives.{NoDirectives}
+use Rattle.apply_rewrite.specs.ReverseStacks.{reversed_all}
+use Rattle.apply_rewrite.specs.CarriedOut.{made_reverse}
+use Rattle.apply_rewrite.proofs.NamesMore.{AnyCall}
+use Rattle.apply_rewrite.proofs.SpentNames.{draws, Each}
+
+-- a loop from 0 round a list, after a front
+abbrev pub one_loop : Stmts → Name → Expr → Parts → Gen
+one_loop front c b ps = record { front = front; parts = more_parts (Looped (gen_loop no_stmts c (ll 0) b (Seq ps))) no_parts }
+
+-- a further directive takes the next name
+pub reverse_last : (k : ℕ) (f : FreshNames) (front : Stmts) (c : Name) (b : Expr) (ps : Parts) →
+    made_reverse (record { tree = reversed_all (draws k f) (one_loop front c b ps); left = after_draws k f }) ≡ record { tree = reversed_all (draws (suc k) f) (one_loop front c b ps); left = after_draws (suc k) f }
+reverse_last zero f front c b ps = refl
+reverse_last (suc k) f front c b ps = reverse_last k (after_draw f) front (drawn f) b (more_parts (Plain (only (let_stmt c (bin Sub (bin Sub b (ll 1)) (read (drawn f)))))) ps)
+
+-- ---- its names
+
+module _ (P : Name → Type 0) where
+  signed_named : (up : Bool) (s : ℕ) → Names P (signed_literal up s)
+  signed_named true s = tt
+  signed_named false s = tt
+
+  pub value_named : (T : _) (by : _) (a t : Name) → P a → P t → Names P (value_expr T by a t)
+  value_named T by a t h k = (h, (k, signed_named (is_up by) _))
+
+  count_by_named : (op : BinOp) (up : Bool) (s : ℕ) (a b : Name) → P a → P b → Names P (count_by op up s a b)
+  count_by_named Lt true s a b h k = ((h, k), ((((k, h), tt), tt), tt), tt)
+  count_by_named Le true s a b h k = ((h, k), (((k, h), tt), tt), tt)
+  count_by_named Ne true s a b h k = ((h, k), ((((k, h), tt), tt), tt), tt)
+  count_by_named Gt false s a b h k = ((h, k), ((((h, k), tt), tt), tt), tt)
+  count_by_named Ge false s a b h k = ((h, k), (((h, k), tt), tt), tt)
+  count_by_named Ne false s a b h k = ((h, k), ((((h, k), tt), tt), tt), tt)
+  count_by_named op up s a b h k = tt
+
+  module _ (m : LoopNames) (l : SourceLoop) (begin : P m.begin) (end : P m.end) (count : P m.count) (lb : Names P l.lb) (ub : Names P l.ub) where
+    pub stack_named : (rs : List Name) (c : Name) (b : Expr) (ps : Parts) → Each P rs → P c → Names P b → UsesAll P AnyCall (parts_stmts ps) → UsesAll P AnyCall (emit (reversed_all rs (one_loop (source_front m l no_stmts) c b ps)))
+    stack_named [] c b ps hs h k u =
+        ((begin, lb), ((end, ub), ((count, count_by_named l.test (is_up l.step) _ m.begin m.end begin end), (((h, tt), (h, k), (h, tt), u), tt))))
+    stack_named (r ∷ rs) c b ps hs h k u = stack_named rs r b (more_parts (Plain (only (let_stmt c (bin Sub (bin Sub b (ll 1)) (read r))))) ps) hs.1 hs.0 k ((h, ((k, tt), hs.0)), u)
+
+-- ---- no `break` and no directive in it
+
+module _ (m : LoopNames) (l : SourceLoop) where
+  pub stack_stays : (rs : List Name) (c : Name) (b : Expr) (ps : Parts) → NoBreaks (emit (reversed_all rs (one_loop (source_front m l no_stmts) c b ps)))
+  stack_stays [] c b ps = (tt, (tt, (tt, (tt, tt))))
+  stack_stays (r ∷ rs) c b ps = stack_stays rs r b _
+
+  pub stack_plain : (rs : List Name) (c : Name) (b : Expr) (ps : Parts) → NoDirectives (parts_stmts ps) → NoDirectives (emit (reversed_all rs (one_loop (source_front m l no_stmts) c b ps)))
+  stack_plain [] c b ps h = (tt, (tt, (tt, ((tt, tt, h), tt))))
+  stack_plain (r ∷ rs) c b ps h = stack_plain rs r b (more_parts (Plain (only (let_stmt c (bin Sub (bin Sub b (ll 1)) (read r))))) ps) (tt, h)
