@@ -1,0 +1,11 @@
+pub mod Applied
+pub mod Interchanges
+pub mod KnownCounts
+pub mod MovedKinds
+pub mod Parts
+pub mod PositionLists
+pub mod Quotients
+pub mod Replaced
+pub mod Splits
+pub mod Tiles
+pub mod Transforms
