@@ -1,11 +1,17 @@
 pub mod Applied
+pub mod DefineValues
+pub mod HeldBounds
+pub mod HeldParts
 pub mod Interchanges
 pub mod KnownCounts
+pub mod Lookups
 pub mod MovedKinds
 pub mod Parts
+pub mod PlannedDirectives
 pub mod PositionLists
 pub mod Quotients
 pub mod Replaced
 pub mod Splits
 pub mod Tiles
 pub mod Transforms
+pub mod TripCounts
