@@ -1,8 +1,10 @@
 pub mod Applied
 pub mod DefineValues
+pub mod Dependences
 pub mod HeldBounds
 pub mod HeldParts
 pub mod Interchanges
+pub mod ItemBreaches
 pub mod KnownCounts
 pub mod Lookups
 pub mod MovedKinds

@@ -64,6 +64,11 @@ module _ {A : Type 0} where
       ∙ (append_assoc all (y ∷ []) left
       ∙ (ap (λ zs. all ++ zs) (sym rest_is) ∙ all_is))
 
+  -- several elements more
+  pub pushed_more : (all new given rest left total : List A) → new ≡ all ++ given → rest ≡ given ++ left → all ++ rest ≡ total → new ++ left ≡ total
+  pushed_more all new given rest left total new_is rest_is all_is =
+      ap (λ zs. zs ++ left) new_is ∙ (append_assoc all given left ∙ (ap (λ zs. all ++ zs) (sym rest_is) ∙ all_is))
+
   -- none is left
   pub pushed_all : (all rest total : List A) → rest ≡ [] → all ++ rest ≡ total → all ≡ total
   pushed_all all rest total none is = sym (append-nil all) ∙ (ap (λ zs. all ++ zs) (sym none) ∙ is)

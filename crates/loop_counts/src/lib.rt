@@ -11,6 +11,7 @@ pub mod part;
 pub mod plan_kinds;
 pub mod planned;
 pub mod positions;
+pub mod rules;
 pub mod scope;
 pub mod splitting;
 pub mod tiling;
