@@ -4,6 +4,7 @@ pub mod Globals
 pub mod Ends
 pub mod Loops
 pub mod Machines
+pub mod Marks
 pub mod Plain
 pub mod Runnable
 pub mod Running

@@ -88,10 +88,9 @@ fn argument(
 }
 
 /// A parameter's variable becomes the innermost of a frame.
-fn push_argument(
-    alloc: Global,
-    frame: &mut Vec<Variable>,
-    param: &Param,
+fn push_argument<'p>(
+    frame: &mut Vec<Variable<'p>>,
+    param: &'p Param,
     value: Option<i64>,
 ) -> Result<(), AllocError>
     ensures { OnOk result (frame.new.items ≡ frame.old.items ++ record { name = param.now.name; cell = scalar param.now.ty value } ∷ []) }
@@ -100,19 +99,19 @@ fn push_argument(
         ty: param.ty,
         value,
     };
-    frame.push(Variable::new(param.name.copy(alloc)?, cell))?;
+    frame.push(Variable::new(&param.name, cell))?;
     Ok(())
 }
 
 /// The frame that holds the arguments, which are evaluated from left to right (C11 6.5.2.2). A parameter without an
 /// argument is unset.
 #[tactic(auto, using(crate::proofs::Calls::calls))]
-pub fn arguments(
+pub fn arguments<'p>(
     scope: &Scope,
     m: &Machine,
-    params: &[Param],
+    params: &'p [Param],
     args: &[Expr],
-) -> Result<Vec<Variable>, Stop>
+) -> Result<Vec<Variable<'p>>, Stop>
     requires known { RunnableTops (map bare_top scope.now.items.now) }
     requires well_formed { WellFormedExprs (bare_exprs args.now) }
     ensures frame { IfOk result (λ vs. meaning.arguments (env_of scope.now).defines m.now (map bare_param params.now) (bare_exprs args.now) [] ≡ Ok (reverse vs.items)) }
@@ -124,7 +123,7 @@ pub fn arguments(
             Ok(value) => value,
             Err(trap) => return Err(Stop::Trap(trap)),
         };
-        match push_argument(m.alloc(), &mut frame, param, value) {
+        match push_argument(&mut frame, param, value) {
             Ok(()) => {}
             Err(_) => return Err(Stop::Memory),
         }

@@ -144,7 +144,7 @@ fn initial(
 }
 
 /// The file-scope variable of an item becomes one of the machine, where the item declares one.
-pub fn begin(scope: &Scope, m: &mut Machine, item: &Item) -> Result<(), AllocError>
+pub fn begin<'p>(scope: &Scope, m: &mut Machine<'p>, item: &'p Item) -> Result<(), AllocError>
     requires known { RunnableTops (map bare_top scope.now.items.now) }
     requires runnable { RunnableTop (bare_top item.now) }
     ensures { OnOk result (m.new ≡ with_globals (programs.globals_with (env_of scope.now).defines m.old.globals (bare_top item.now)) m.old) }

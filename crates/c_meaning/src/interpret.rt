@@ -23,10 +23,10 @@ use outside_io::traits::Sink;
 use std::alloc::Global;
 
 /// The items in order, up to `main`, which runs in a frame of its own.
-fn run_items<K: Sink>(
+fn run_items<'p, K: Sink>(
     bound: u64,
-    items: &[Item],
-    m: &mut Machine,
+    items: &'p [Item],
+    m: &mut Machine<'p>,
     out: &mut K,
 ) -> Result<End, RunFault>
     requires { RunnableTops (map bare_top items.now) }

@@ -4,9 +4,11 @@ ghost use Rattle.std.specs.Prelude.{◌≡◌, ◌+◌, ◌<◌, ◌++◌, ◌�
 ghost use Rattle.std.specs.Option.{option_copied};
 ghost use Rattle.c_semantics.specs.Meaning.State.{look, push, store, keep, with_frame, with_globals};
 ghost use Rattle.c_semantics.specs.Meaning.SimpleStatements.{changed, next_input, rest_of};
+ghost use Rattle.c_meaning.specs.Marks.{mark_of};
 ghost use Rattle.c_meaning.specs.Variables.{cell_of, cell_in, first_at, IsCell};
 ghost use Rattle.c_meaning.specs.States.{start, one_turn_more};
 
+use crate::mark::{Mark, mark_of};
 use crate::variable::{Cell, Variable};
 use c_tree::arithmetic::Trap;
 use c_tree::name::Name;
@@ -16,17 +18,17 @@ use std::mem;
 
 /// The state of a run, which contracts see as a state without lines, and with as many turns as 64 bits hold.
 #[derive(Drop)]
-pub struct Machine<'i> {
+pub struct Machine<'p> {
     alloc: Global,
     /// The variables of the running function, the innermost last.
-    frame: Vec<Variable>,
+    frame: Vec<Variable<'p>>,
     /// The file-scope variables, in their order.
-    globals: Vec<Variable>,
-    input: &'i [i64],
+    globals: Vec<Variable<'p>>,
+    input: &'p [i64],
     turns: u64,
 }
 
-impl<'i> Model for Machine<'i> {
+impl<'p> Model for Machine<'p> {
     ghost use Rattle.c_semantics.specs.Meaning.State.{State};
     ghost use Rattle.c_meaning.specs.Machines.{state_of};
 
@@ -37,14 +39,15 @@ impl<'i> Model for Machine<'i> {
 
 /// Where the last variable of a name stands.
 #[tactic(auto, using(crate::proofs::Variables::variables))]
-fn last_named(variables: &[Variable], name: &Name) -> Option<usize>
+fn last_named(variables: &[Variable], name: &Name, mark: Mark) -> Option<usize>
+    requires { mark ≡ mark_of name.now }
     ensures found { IfSome result (λ i. i + first_at name.now (reverse variables.now) + 1 ≡ length variables.now) }
     ensures none { IfNone result (first_at name.now (reverse variables.now) ≡ length variables.now) }
 {
     let mut left = variables.len();
     'each: while left > 0 {
         left -= 1;
-        if variables[left].is_named(name) {
+        if variables[left].is_named(name, mark) {
             return Some(left);
         }
     }
@@ -53,21 +56,22 @@ fn last_named(variables: &[Variable], name: &Name) -> Option<usize>
 
 /// Where the first variable of a name stands.
 #[tactic(auto, using(crate::proofs::Variables::variables))]
-fn first_named(variables: &[Variable], name: &Name) -> Option<usize>
+fn first_named(variables: &[Variable], name: &Name, mark: Mark) -> Option<usize>
+    requires { mark ≡ mark_of name.now }
     ensures found { IfSome result (λ i. (i ≡ first_at name.now variables.now) × (i < length variables.now)) }
     ensures none { IfNone result (first_at name.now variables.now ≡ length variables.now) }
 {
     'each: for (index, variable) in variables.iter().enumerate() {
-        if variable.is_named(name) {
+        if variable.is_named(name, mark) {
             return Some(index);
         }
     }
     None
 }
 
-impl<'i> Machine<'i> {
+impl<'p> Machine<'p> {
     /// No variable is there, and no turn was counted.
-    pub fn new(alloc: Global, input: &'i [i64]) -> Machine<'i>
+    pub fn new(alloc: Global, input: &'p [i64]) -> Machine<'p>
         ensures { result ≡ start input.now }
     {
         Machine {
@@ -81,12 +85,13 @@ impl<'i> Machine<'i> {
 
     /// The variable that a name means: the innermost of the frame, else the file's.
     #[tactic(auto, using(crate::proofs::Variables::places))]
-    pub fn look(&self, name: &Name) -> Option<&Variable>
+    pub fn look(&self, name: &Name) -> Option<&Variable<'p>>
         ensures { cell_in (option_copied result) ≡ look self.now name.now }
     {
-        match last_named(self.frame.as_slice(), name) {
+        let mark = mark_of(name);
+        match last_named(self.frame.as_slice(), name, mark) {
             Some(index) => Some(&self.frame[index]),
-            None => match first_named(self.globals.as_slice(), name) {
+            None => match first_named(self.globals.as_slice(), name, mark) {
                 Some(index) => Some(&self.globals[index]),
                 None => None,
             },
@@ -98,29 +103,28 @@ impl<'i> Machine<'i> {
     pub fn set(&mut self, name: &Name, at: u64, number: i64)
         ensures { self.new ≡ store name.now (changed (look self.old name.now) at number) self.old }
     {
-        if let Some(index) = last_named(self.frame.as_slice(), name) {
+        let mark = mark_of(name);
+        if let Some(index) = last_named(self.frame.as_slice(), name, mark) {
             self.frame[index].set(at, number);
-        } else if let Some(index) = first_named(self.globals.as_slice(), name) {
+        } else if let Some(index) = first_named(self.globals.as_slice(), name, mark) {
             self.globals[index].set(at, number);
         }
     }
 
     /// A new innermost variable.
-    pub fn push(&mut self, name: &Name, cell: Cell) -> Result<(), AllocError>
+    pub fn push(&mut self, name: &'p Name, cell: Cell) -> Result<(), AllocError>
         requires { IsCell cell }
         ensures { OnOk result (self.new ≡ push name.now (cell_of cell) self.old) }
     {
-        let name = name.copy(self.alloc)?;
         self.frame.push(Variable::new(name, cell))?;
         Ok(())
     }
 
     /// A new file-scope variable behind the others.
-    pub fn add_global(&mut self, name: &Name, cell: Cell) -> Result<(), AllocError>
+    pub fn add_global(&mut self, name: &'p Name, cell: Cell) -> Result<(), AllocError>
         requires { IsCell cell }
         ensures { OnOk result (self.new ≡ with_globals (self.old.globals ++ record { name = name.now; cell = cell_of cell } ∷ []) self.old) }
     {
-        let name = name.copy(self.alloc)?;
         self.globals.push(Variable::new(name, cell))?;
         Ok(())
     }
@@ -145,8 +149,8 @@ impl<'i> Machine<'i> {
     }
 
     /// Puts a frame in place of the running function's, whose variables it gives back.
-    pub fn swap_frame(&mut self, frame: Vec<Variable>) -> Vec<Variable>
-        ensures frame { self.new ≡ with_frame (reverse frame.items) self.old }
+    pub fn swap_frame(&mut self, frame: Vec<Variable<'p>>) -> Vec<Variable<'p>>
+        ensures frame { self.new ≡ with_frame (reverse frame.entry.items) self.old }
         ensures was { reverse result.items ≡ self.old.frame }
     {
         mem::replace(&mut self.frame, frame)

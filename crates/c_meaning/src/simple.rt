@@ -63,11 +63,11 @@ pub fn printed(scope: &Scope, m: &Machine, e: &Expr) -> Result<i64, Trap>
 
 /// A declaration (C11 6.7.9). The only fault is want of memory.
 #[tactic(auto, using(crate::proofs::Assignments::declarations))]
-pub fn declare(
+pub fn declare<'p>(
     scope: &Scope,
-    m: &mut Machine,
+    m: &mut Machine<'p>,
     ty: Ty,
-    name: &Name,
+    name: &'p Name,
     init: &Option<Expr>,
 ) -> Result<End, RunFault>
     requires known { RunnableTops (map bare_top scope.now.items.now) }
@@ -101,7 +101,7 @@ fn type_in(variable: Option<&Variable>) -> Ty
     }
 }
 
-fn dims_of(variable: Option<&Variable>) -> &[u64]
+fn dims_of<'a, 'p>(variable: Option<&'a Variable<'p>>) -> &'a [u64]
     ensures dims { result.now ≡ values.dims_of (cell_in (option_copied variable.entry)) }
     ensures fit { FitFrom 1 result.now }
 {

@@ -65,11 +65,11 @@ fn stopped(stop: Stop) -> Result<End, RunFault>
 
 /// One statement.
 #[cycle(run)]
-pub fn run_stmt<K: Sink>(
-    scope: &Scope,
-    m: &mut Machine,
+pub fn run_stmt<'p, K: Sink>(
+    scope: &Scope<'p>,
+    m: &mut Machine<'p>,
     out: &mut K,
-    stmt: &Stmt,
+    stmt: &'p Stmt,
 ) -> Result<End, RunFault>
     requires known { RunnableTops (map bare_top scope.now.items.now) }
     requires runnable { RunnableStmt (bare_stmt stmt.now) }
@@ -117,11 +117,11 @@ pub fn run_stmt<K: Sink>(
 
 /// Statements, one after another, up to the first that doesn't end `Next`.
 #[cycle(run)]
-pub fn run_stmts<K: Sink>(
-    scope: &Scope,
-    m: &mut Machine,
+pub fn run_stmts<'p, K: Sink>(
+    scope: &Scope<'p>,
+    m: &mut Machine<'p>,
     out: &mut K,
-    stmts: &[Stmt],
+    stmts: &'p [Stmt],
 ) -> Result<End, RunFault>
     requires known { RunnableTops (map bare_top scope.now.items.now) }
     requires runnable { RunnableStmts (bare_stmts stmts.now) }
@@ -138,11 +138,11 @@ pub fn run_stmts<K: Sink>(
 
 /// A block: what it declares goes with it.
 #[cycle(run)]
-pub fn run_block<K: Sink>(
-    scope: &Scope,
-    m: &mut Machine,
+pub fn run_block<'p, K: Sink>(
+    scope: &Scope<'p>,
+    m: &mut Machine<'p>,
     out: &mut K,
-    body: &StmtList,
+    body: &'p StmtList,
 ) -> Result<End, RunFault>
     requires known { RunnableTops (map bare_top scope.now.items.now) }
     requires runnable { RunnableStmts (bare_stmts body.now) }
@@ -156,13 +156,13 @@ pub fn run_block<K: Sink>(
 
 /// `if` (C11 6.8.4.1): the test is evaluated once.
 #[cycle(run)]
-fn run_if<K: Sink>(
-    scope: &Scope,
-    m: &mut Machine,
+fn run_if<'p, K: Sink>(
+    scope: &Scope<'p>,
+    m: &mut Machine<'p>,
     out: &mut K,
     test: &Expr,
-    yes: &StmtList,
-    no: &Option<StmtList>,
+    yes: &'p StmtList,
+    no: &'p Option<StmtList>,
 ) -> Result<End, RunFault>
     requires known { RunnableTops (map bare_top scope.now.items.now) }
     requires runnable { RunnableStmt (if_of (bare_expr test.now) (bare_stmts yes.now) (option_map bare_stmts no.now)) }
@@ -180,12 +180,12 @@ fn run_if<K: Sink>(
 
 /// A `for` loop (C11 6.8.5.3): the scope of its head is a block round it.
 #[cycle(run)]
-fn run_for<K: Sink>(
-    scope: &Scope,
-    m: &mut Machine,
+fn run_for<'p, K: Sink>(
+    scope: &Scope<'p>,
+    m: &mut Machine<'p>,
     out: &mut K,
-    head: &ForHead,
-    body: &StmtList,
+    head: &'p ForHead,
+    body: &'p StmtList,
 ) -> Result<End, RunFault>
     requires known { RunnableTops (map bare_top scope.now.items.now) }
     requires runnable { RunnableStmt (bare.for_ (bare_head head.now) (bare_stmts body.now)) }
@@ -205,12 +205,12 @@ fn run_for<K: Sink>(
 
 /// What a `for` begins with, and then its turns.
 #[cycle(run)]
-fn run_head<K: Sink>(
-    scope: &Scope,
-    m: &mut Machine,
+fn run_head<'p, K: Sink>(
+    scope: &Scope<'p>,
+    m: &mut Machine<'p>,
     out: &mut K,
-    init: Option<&Stmt>,
-    repeated: &Loop,
+    init: Option<&'p Stmt>,
+    repeated: &Loop<'p>,
 ) -> Result<End, RunFault>
     requires known { RunnableTops (map bare_top scope.now.items.now) }
     requires begin { RunnablePart (maybe_stmt (option_map bare_stmt (option_copied init))) }
@@ -225,11 +225,11 @@ fn run_head<K: Sink>(
 
 /// A part of a `for` head.
 #[cycle(run)]
-fn run_part<K: Sink>(
-    scope: &Scope,
-    m: &mut Machine,
+fn run_part<'p, K: Sink>(
+    scope: &Scope<'p>,
+    m: &mut Machine<'p>,
     out: &mut K,
-    part: Option<&Stmt>,
+    part: Option<&'p Stmt>,
 ) -> Result<End, RunFault>
     requires known { RunnableTops (map bare_top scope.now.items.now) }
     requires runnable { RunnablePart (maybe_stmt (option_map bare_stmt (option_copied part))) }
@@ -243,11 +243,11 @@ fn run_part<K: Sink>(
 
 /// So many turns at most: the test is asked before each, and once more after the last.
 #[cycle(run)]
-fn repeat<K: Sink>(
-    scope: &Scope,
-    m: &mut Machine,
+fn repeat<'p, K: Sink>(
+    scope: &Scope<'p>,
+    m: &mut Machine<'p>,
     out: &mut K,
-    repeated: &Loop,
+    repeated: &Loop<'p>,
     turns: u64,
 ) -> Result<End, RunFault>
     requires known { RunnableTops (map bare_top scope.now.items.now) }
@@ -274,11 +274,11 @@ fn repeat<K: Sink>(
 
 /// The turns of a `do` loop, whose first is due without a test.
 #[cycle(run)]
-fn repeat_after<K: Sink>(
-    scope: &Scope,
-    m: &mut Machine,
+fn repeat_after<'p, K: Sink>(
+    scope: &Scope<'p>,
+    m: &mut Machine<'p>,
     out: &mut K,
-    repeated: &Loop,
+    repeated: &Loop<'p>,
 ) -> Result<End, RunFault>
     requires known { RunnableTops (map bare_top scope.now.items.now) }
     requires runnable { RunnableLoop repeated.now }
@@ -295,11 +295,11 @@ fn repeat_after<K: Sink>(
 
 /// One turn; that of a `for` is counted, and ends with the head's last part.
 #[cycle(run)]
-fn run_turn<K: Sink>(
-    scope: &Scope,
-    m: &mut Machine,
+fn run_turn<'p, K: Sink>(
+    scope: &Scope<'p>,
+    m: &mut Machine<'p>,
     out: &mut K,
-    repeated: &Loop,
+    repeated: &Loop<'p>,
 ) -> Result<End, RunFault>
     requires known { RunnableTops (map bare_top scope.now.items.now) }
     requires runnable { RunnableLoop repeated.now }
@@ -317,9 +317,9 @@ fn run_turn<K: Sink>(
 
 /// A call (C11 6.5.2.2): the body runs in a frame that holds the arguments, and then the caller's is put back.
 #[cycle(run)]
-fn call<K: Sink>(
-    scope: &Scope,
-    m: &mut Machine,
+fn call<'p, K: Sink>(
+    scope: &Scope<'p>,
+    m: &mut Machine<'p>,
     out: &mut K,
     name: &Name,
     args: &ExprList,

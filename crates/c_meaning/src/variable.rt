@@ -4,7 +4,9 @@ ghost use Rattle.std.specs.Prelude.{◌≡◌, ℕ, ◌<◌, Some, bytes_eq, sli
 ghost use Rattle.c_semantics.specs.Meaning.Expressions.{cell_type, dims_of, elements_of, or_unset};
 ghost use Rattle.c_semantics.specs.Meaning.SimpleStatements.{changed, old_value};
 ghost use Rattle.c_meaning.specs.Variables.{cell_of, number_of, IsCell, FitFrom};
+ghost use Rattle.c_meaning.specs.Marks.{mark_of};
 
+use crate::mark::{Mark, mark_of};
 use c_tree::arithmetic::Trap;
 use c_tree::name::Name;
 use c_tree::tree::Ty;
@@ -24,37 +26,45 @@ pub enum Cell {
     },
 }
 
-/// A variable, which contracts see as that of a state.
+/// A variable, which contracts see as that of a state. The program has its name; most other names have another mark.
 #[derive(Debug, Drop)]
-pub struct Variable {
-    name: Name,
+pub struct Variable<'p> {
+    name: &'p Name,
+    mark: Mark,
     cell: Cell,
 }
 
-impl Model for Variable {
+impl<'p> Model for Variable<'p> {
+    ghost use Rattle.std.specs.Prelude.{◌≡◌};
     ghost use Rattle.c_semantics.specs.Meaning.State.{Var};
+    ghost use Rattle.c_meaning.specs.Marks.{mark_of};
     ghost use Rattle.c_meaning.specs.Variables.{cell_of, IsCell};
 
     ghost Value = { Var };
 
-    ghost view = { λ v. record { name = v.name; cell = cell_of v.cell } };
+    ghost view = { λ v. record { name = v.name.now; cell = cell_of v.cell } };
 
-    ghost invariant = { λ v. IsCell v.cell };
+    ghost invariant = { λ v. (v.mark ≡ mark_of v.name.now) × IsCell v.cell };
 }
 
-impl Variable {
-    pub fn new(name: Name, cell: Cell) -> Variable
+impl<'p> Variable<'p> {
+    pub fn new(name: &'p Name, cell: Cell) -> Variable<'p>
         requires { IsCell cell }
-        ensures { result ≡ record { name = name; cell = cell_of cell } }
+        ensures { result ≡ record { name = name.now; cell = cell_of cell } }
     {
-        Variable { name, cell }
+        Variable {
+            name,
+            mark: mark_of(name),
+            cell,
+        }
     }
 
-    /// Whether this is the variable's name.
-    pub fn is_named(&self, name: &Name) -> bool
+    /// Whether this is the variable's name. Names are compared only where their marks are the same.
+    pub fn is_named(&self, name: &Name, mark: Mark) -> bool
+        requires { mark ≡ mark_of name.now }
         ensures { result ≡ bytes_eq name.now self.now.name }
     {
-        *name == self.name
+        mark == self.mark && *name == *self.name
     }
 
     pub fn ty(&self) -> Ty

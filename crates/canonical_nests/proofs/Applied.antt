@@ -8,7 +8,7 @@ use Rattle.canonical_nests.specs.Plans.{seen_plan, seen_item, plan_layer, applie
 use Rattle.canonical_nests.specs.declared.plan.Applied.{Applied, roll-Applied, out-Applied, roll-out-Applied, fold-roll-Applied}
 use Rattle.canonical_nests.specs.declared.plan.Plan.{Plan}
 
-position_is : (c : t.Transformation) (p : ℕ) (f : List ℕ → Option (List ℕ)) (ks : List ℕ)
+pub position_is : (c : t.Transformation) (p : ℕ) (f : List ℕ → Option (List ℕ)) (ks : List ℕ)
     → position_depths c p f ks ≡ part_depths (part_of c p) (below_depths (loops_above c p) f) ks
 position_is (t.tile ss) p f ks = refl
 position_is (t.interchange qs) p f ks = refl
@@ -19,7 +19,7 @@ position_is (t.fuse (Some r)) p f ks = refl
 position_is t.unroll_full p f ks = refl
 position_is (t.unroll_partial k) p f ks = refl
 
-seen_item_roll : (position : ℕ) (plan : Plan) → seen_item (roll-Applied (record { position = position; plan = plan })) ≡ (position, seen_plan plan)
+pub seen_item_roll : (position : ℕ) (plan : Plan) → seen_item (roll-Applied (record { position = position; plan = plan })) ≡ (position, seen_plan plan)
 seen_item_roll position plan = fold-roll-Applied (ℕ × PlacedPlan) PlacedPlan applied_layer plan_layer (record { position = position; plan = plan })
 
 pub seen_item_out : (x : Applied) → seen_item x ≡ ((out-Applied x).position, seen_plan (out-Applied x).plan)

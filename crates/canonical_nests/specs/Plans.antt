@@ -1,5 +1,5 @@
 -- The plan that a plan of the code stands for.
-use Rattle.std.specs.Prelude.{ℕ, ◌-◌, List, [], ◌∷◌, Option, Some, None}
+use Rattle.std.specs.Prelude.{ℕ, suc, ◌-◌, List, [], ◌∷◌, Option, Some, None, nat_lt, if◌then◌else◌}
 use Rattle.c_semantics.specs.Loops.Transformations as t
 use Rattle.canonical_nests.specs.LoopRules.PlacedPlans as p
 use Rattle.canonical_nests.specs.declared.plan.Transformation.{Transformation}
@@ -31,6 +31,11 @@ seen_plan = fold-Plan (ℕ × p.PlacedPlan) p.PlacedPlan applied_layer plan_laye
 
 abbrev pub seen_item : Applied → ℕ × p.PlacedPlan
 seen_item = fold-Applied (ℕ × p.PlacedPlan) p.PlacedPlan applied_layer plan_layer
+
+-- how many items of a list, the last position first, stand before a new one at this position
+abbrev pub place_among : ℕ → List (ℕ × p.PlacedPlan) → ℕ
+place_among p [] = 0
+place_among p (i ∷ is) = if nat_lt i.0 p then 0 else suc (place_among p is)
 
 -- ---- where an item stands: the part, from 0, and how many of its loops stand round the item
 

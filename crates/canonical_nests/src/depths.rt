@@ -4,6 +4,7 @@ ghost use Rattle.std.specs.Prelude.{◌≡◌, ◌+◌, ◌-◌, ◌<◌, [], �
 ghost use Rattle.std.specs.Option.{option_map};
 ghost use Rattle.c_semantics.specs.Loops.Need as need;
 ghost use Rattle.canonical_nests.specs.LoopRules.PlacedPlans.{forget_plan, forget_items};
+ghost use Rattle.canonical_nests.specs.LoopRules.Structure as structure;
 ghost use Rattle.canonical_nests.specs.Plans.{seen_transformation, seen_plan, seen_item, gather, part_of, loops_above};
 
 use crate::plan::{Applied, Plan, Transformation};
@@ -106,7 +107,7 @@ fn fused_depths(
 
 /// The depths of the parts that a transformation gives, before its items.
 #[tactic(auto, using(crate::proofs::DepthLists::depth_lists))]
-fn transformed_depths(
+pub fn transformed_depths(
     alloc: Global,
     c: &Transformation,
     depths: &[u64],
@@ -258,5 +259,37 @@ fn item_depths(
     match depths(alloc, plan, over.as_slice())? {
         None => Ok(None),
         Some(given) => Ok(Some(nested(alloc, below, given)?)),
+    }
+}
+
+/// The depth of the part at an item's position, below the loops that stand round the item, and 0 where there is no such
+/// part.
+#[tactic(auto, using(crate::proofs::Positioned::positioned))]
+pub fn depth_at(c: &Transformation, position: u64, depths: &[u64]) -> u64
+    ensures { result ≡ structure.depth_at (seen_transformation c.now) position depths.now }
+{
+    let place = place_of(c, position);
+    if place.part < depths.len() as u64 {
+        depths[place.part as usize].saturating_sub(place.below)
+    } else {
+        0
+    }
+}
+
+/// The depths with that of the part at a position replaced by those that an item gives for it, and no depth where the
+/// item doesn't find its loops.
+#[tactic(auto, using(crate::proofs::Positioned::positioned))]
+pub fn after_item(
+    alloc: Global,
+    c: &Transformation,
+    position: u64,
+    plan: &Plan,
+    depths: &[u64],
+) -> Result<Vec<u64>, AllocError>
+    ensures { IfOk result (λ left. left.items ≡ structure.after_item (seen_transformation c.now) position (seen_plan plan.now) depths.now) }
+{
+    match part_depths(alloc, plan, place_of(c, position), depths)? {
+        None => Ok(Vec::new(alloc)),
+        Some(left) => Ok(left),
     }
 }

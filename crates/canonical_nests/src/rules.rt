@@ -67,6 +67,47 @@ pub enum LoopRule {
     L28,
 }
 
+impl LoopRule {
+    ghost use Rattle.std.specs.Prelude.{◌≡◌};
+    ghost use Rattle.canonical_nests.specs.LoopRules.BreachSets.{rule_number};
+
+    /// The number in the rule's name.
+    pub fn number(&self) -> u8
+        ensures { result ≡ rule_number self.now }
+    {
+        match self {
+            LoopRule::L1 => 1,
+            LoopRule::L2 => 2,
+            LoopRule::L3 => 3,
+            LoopRule::L4 => 4,
+            LoopRule::L5 => 5,
+            LoopRule::L6 => 6,
+            LoopRule::L7 => 7,
+            LoopRule::L8 => 8,
+            LoopRule::L9 => 9,
+            LoopRule::L10 => 10,
+            LoopRule::L11 => 11,
+            LoopRule::L12 => 12,
+            LoopRule::L13 => 13,
+            LoopRule::L14 => 14,
+            LoopRule::L15 => 15,
+            LoopRule::L16 => 16,
+            LoopRule::L17 => 17,
+            LoopRule::L18 => 18,
+            LoopRule::L19 => 19,
+            LoopRule::L20 => 20,
+            LoopRule::L21 => 21,
+            LoopRule::L22 => 22,
+            LoopRule::L23 => 23,
+            LoopRule::L24 => 24,
+            LoopRule::L25 => 25,
+            LoopRule::L26 => 26,
+            LoopRule::L27 => 27,
+            LoopRule::L28 => 28,
+        }
+    }
+}
+
 /// A loop rule that is broken, and the place of the breach: a byte offset in the text.
 #[derive(Clone, Copy, Debug, PartialEq, Eq)]
 pub struct LoopBreach {

@@ -48,7 +48,7 @@ fn own_permutation(clause: &Clause) -> Option<u64>
 
 /// How many sizes the first `sizes` clause has, 0 where there is none.
 #[tactic(auto, using(crate::proofs::ClauseLists::clauses))]
-fn sizes_count(clauses: &[Clause]) -> u64
+pub fn sizes_count(clauses: &[Clause]) -> u64
     ensures { result ≡ length (sizes_in (bare_clauses clauses.now)) }
 {
     'each: for clause in clauses {

@@ -14,3 +14,4 @@ pub mod Rebase
 pub mod Digits
 pub mod Trees
 pub mod Drawn
+pub mod Parts

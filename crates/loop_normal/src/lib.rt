@@ -6,3 +6,5 @@ pub mod generated;
 pub mod laws;
 pub mod normal;
 pub mod pieces;
+pub mod ranges;
+pub mod statements;

@@ -1,0 +1,9 @@
+pub mod ArgumentWalks
+pub mod ClauseSteps
+pub mod ClauseWalks
+pub mod EarlierClauses
+pub mod Indices
+pub mod ItemWalks
+pub mod Modifiers
+pub mod NumberLists
+pub mod TakenWalks
