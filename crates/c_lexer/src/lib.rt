@@ -12,7 +12,5 @@ mod machine;
 mod mode;
 mod number;
 mod punctuator;
-#[cfg(test)]
-mod tests;
 pub mod token;
 pub mod words;

@@ -12,6 +12,4 @@ pub mod laws;
 pub mod name;
 pub mod name_rule;
 pub mod place;
-#[cfg(test)]
-mod tests;
 pub mod tree;

@@ -15,6 +15,4 @@ mod operators;
 pub mod phrase;
 mod reading;
 pub mod terminal;
-#[cfg(test)]
-mod tests;
 pub mod words;

@@ -7,7 +7,5 @@ pub mod laws;
 pub mod positions;
 pub mod refusal;
 pub mod reversed_loop;
-#[cfg(test)]
-mod tests;
 pub mod translate;
 pub mod tree;

@@ -1,11 +1,11 @@
 //! A text's tokens, and what is read at one of them.
 
-use crate::directive::read_directive;
-use crate::expression::{ends_text, read_expr};
-use crate::phrase::{ParseFault, Phrase};
 use c_lexer::lexer::lex;
 use c_lexer::token::{LexFault, Token};
 use c_tree::tree::{Directive, Expr};
+use pragma_grammar::directive::read_directive;
+use pragma_grammar::expression::{ends_text, read_expr};
+use pragma_grammar::phrase::{ParseFault, Phrase};
 use std::alloc::{AllocError, Global};
 use std::process::Abort;
 use std::test::Fail;

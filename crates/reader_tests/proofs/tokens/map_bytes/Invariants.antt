@@ -1,5 +1,5 @@
 use Rattle.std.proofs.Common.{◌≡◌}
-use Rattle.c_lexer.proofs.tests.map_bytes.Given as goal
+use Rattle.reader_tests.proofs.tokens.map_bytes.Given as goal
 
 abbrev pub invariant-loop-i : goal.invariant-loop-i
 invariant-loop-i l = l.map.count ≡ l.i

@@ -1,12 +1,12 @@
 //! What no clause says: each call once with ample memory, and numbers worked out by hand.
 
-use crate::boxed::Boxed;
-use crate::copy::copy_stmt;
-use crate::height::height;
-use crate::items::Items;
-use crate::name::Name;
-use crate::place::line_col;
-use crate::tree::{
+use c_tree::boxed::Boxed;
+use c_tree::copy::copy_stmt;
+use c_tree::height::height;
+use c_tree::items::Items;
+use c_tree::name::Name;
+use c_tree::place::line_col;
+use c_tree::tree::{
     ApplyItem, ApplyList, BinOp, Clause, ClauseKind, ClauseList, Count, CountList, Directive, Expr,
     ForHead, Item, Kind, Param, Port, Program, SetOp, Span, Stmt, StmtList, Target, Ty, UnOp,
 };

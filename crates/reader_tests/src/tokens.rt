@@ -2,10 +2,10 @@
 
 ghost use Rattle.std.specs.Prelude.{◌≡◌, ◌<◌, ◌≤◌, ◌^◌, length, IfOk};
 
-use crate::lexer::{Lexer, lex};
-use crate::line_map::LineMap;
-use crate::token::{LexFault, Punct, Token, TokenKind};
-use crate::words::{Keyword, is_outside, keyword_of};
+use c_lexer::lexer::{Lexer, lex};
+use c_lexer::line_map::LineMap;
+use c_lexer::token::{LexFault, Punct, Token, TokenKind};
+use c_lexer::words::{Keyword, is_outside, keyword_of};
 use c_tree::name::Name;
 use c_tree::place::line_col;
 use c_tree::tree::Ty;

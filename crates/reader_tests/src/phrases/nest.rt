@@ -1,6 +1,6 @@
 //! Texts in which phrases stand in one another, and the heights of what is read of them.
 
-use crate::phrase::Phrase;
+use pragma_grammar::phrase::Phrase;
 use std::alloc::{AllocError, Global};
 use std::process::Abort;
 

@@ -1,11 +1,11 @@
-//! Tests of the readers.
+//! Texts of expressions and of directives, read alone.
 
 mod directive_heights;
 mod directive_texts;
-mod heights;
+mod expression_heights;
+mod expression_texts;
 mod nest;
 mod read;
 mod show;
 mod show_directive;
 mod show_expr;
-mod texts;

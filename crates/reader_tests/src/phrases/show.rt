@@ -2,10 +2,10 @@
 
 use super::show_directive::{show_clause, show_count, show_directive, show_item};
 use super::show_expr::show_expr;
-use crate::phrase::{ParseFault, Phrase};
 use c_tree::items::Items;
 use c_tree::name::Name;
 use c_tree::tree::{ApplyItem, Clause, Count, Directive, Expr, Span};
+use pragma_grammar::phrase::{ParseFault, Phrase};
 use std::alloc::{AllocError, Global};
 
 /// What is still to be shown.
