@@ -1,5 +1,5 @@
 -- What stands in a directive's body, by how much it is, and what loops over it have left.
-use Rattle.std.proofs.Common.{◌≡◌, ◌∙◌, sym, ap, refl, ◌<◌, ◌≤◌, ◌+◌, ◌≢◌, ℕ, zero, suc, List, [], ◌∷◌, ◌++◌, map, length, drop, get_or, slice_index_or, Option, Some, None, Bool, true, false, ◌||◌, arith}
+use Rattle.std.proofs.Common.{◌≡◌, ◌∙◌, sym, ap, refl, ◌<◌, ◌≤◌, ◌+◌, ◌≢◌, ℕ, List, [], ◌∷◌, ◌++◌, map, length, drop, get_or, slice_index_or, Some, None, true, false, ◌||◌, arith}
 use Rattle.std.specs.Prelude.{◌==◌, not, unwrap_or, if◌then◌else◌}
 use Rattle.std.specs.List.{list_any}
 use Rattle.std.proofs.lemmas.Bool.{false≢true}
@@ -7,7 +7,6 @@ use Rattle.c_tree.specs.Placed as p
 use Rattle.c_tree.specs.Placed.{stmt_span, directive, clause, more_clauses}
 use Rattle.c_tree.specs.BareOf.{bare_stmt}
 use Rattle.c_tree.specs.PlacedOf.{placed_stmt, placed_kind, placed_clauses, placed_directive}
-use Rattle.c_tree.specs.Forget.{forget_stmt}
 use Rattle.c_tree.specs.declared.tree.Kind.{Kind}
 use Rattle.c_tree.specs.declared.tree.Kind.TheVariants.{Tile, Unroll, Interchange, Reverse, Split, Fuse}
 use Rattle.c_tree.specs.declared.tree.Span.{Span}

@@ -1,5 +1,5 @@
 -- The depths that a directive finds, and those of a list with one statement.
-use Rattle.std.proofs.Common.{◌≡◌, ◌∙◌, sym, ap, refl, ◌<◌, ◌≢◌, ℕ, zero, suc, List, [], ◌∷◌, length, slice_index_or, subst, Option, None, Bool, arith}
+use Rattle.std.proofs.Common.{◌≡◌, ◌∙◌, sym, ap, refl, ◌≢◌, ℕ, List, [], ◌∷◌, length, slice_index_or, subst, Option, None, Bool, arith}
 use Rattle.std.specs.Prelude.{if◌then◌else◌}
 use Rattle.c_tree.specs.Bare as b
 use Rattle.c_tree.specs.BareOf.{stmt_layer, head_layer, item_layer, kind_layer, clause_layer, directive_layer, bare_clauses, bare_directive, bare_stmt, bare_stmts}
@@ -15,7 +15,6 @@ use Rattle.c_tree.specs.declared.tree.Stmt.TheVariants as v
 use Rattle.c_tree.specs.declared.tree.Stmt.TheOpen as s
 use Rattle.c_tree.proofs.Forgotten.Directives.{bare_directive_is}
 use Rattle.c_semantics.specs.Meaning.Expressions.{Define}
-use Rattle.c_semantics.specs.Loops.Transformations as t
 use Rattle.c_semantics.specs.Loops.Directives.{plan_of}
 use Rattle.c_semantics.specs.Loops.StatementDepths.{kind_of, found_by, single_depths, member_depths, stmt_depths}
 use Rattle.c_semantics.specs.Loops.Need.{if_some, depths}

@@ -1,13 +1,12 @@
 -- What a loop over the members of a sequence has left.
-use Rattle.std.proofs.Common.{◌≡◌, ◌∙◌, sym, ap, refl, ◌<◌, ◌≤◌, ◌+◌, ℕ, zero, suc, List, [], ◌∷◌, ◌++◌, append_assoc, length, drop, slice_index_or, Option, Some, None, Bool, true, false, nat_eq, length-drop, arith, rules}
+use Rattle.std.proofs.Common.{◌≡◌, ◌∙◌, sym, ap, refl, ◌<◌, ◌≤◌, ◌+◌, ℕ, suc, List, [], ◌∷◌, ◌++◌, append_assoc, length, drop, slice_index_or, Option, Some, None, Bool, true, false, nat_eq, length-drop, arith, rules}
 use Rattle.std.proofs.lemmas.Bool.Decides.{nat_tests}
-use Rattle.std.proofs.lemmas.List.{at_drop_more, drop_all}
 use Rattle.c_tree.specs.Bare as b
 use Rattle.c_tree.specs.BareOf.{bare_stmt, bare_stmts}
 use Rattle.c_tree.specs.declared.tree.Stmt.{Stmt}
 use Rattle.c_tree.proofs.Walks.{rest_more, rest_none}
 use Rattle.c_semantics.specs.Meaning.Expressions.{Define}
-use Rattle.c_semantics.specs.Loops.StatementDepths.{joined, stmt_depths, member_depths}
+use Rattle.c_semantics.specs.Loops.StatementDepths.{joined, member_depths}
 use Rattle.canonical_nests.proofs.HeldTrees.{good_more}
 use Rattle.loop_structure.specs.Members.{standing_depths, standing_at}
 

@@ -1,12 +1,12 @@
 -- A directive over a part, and what a loop over its items has left.
-use Rattle.std.proofs.Common.{◌≡◌, ◌∙◌, sym, ap, refl, ◌<◌, ◌≤◌, ◌+◌, ◌≢◌, ℕ, zero, suc, List, [], ◌∷◌, map, length, drop, slice_index_or, Option, Some, None, nat_lt, true}
+use Rattle.std.proofs.Common.{◌≡◌, ◌∙◌, ap, refl, ◌<◌, ◌≤◌, ◌+◌, ◌≢◌, ℕ, zero, suc, List, [], ◌∷◌, map, length, drop, slice_index_or, Some, None, nat_lt, true}
 use Rattle.c_tree.proofs.Walks.{rest_more, rest_none}
 use Rattle.c_semantics.specs.Loops.Transformations as t
 use Rattle.c_semantics.specs.Loops.Need.{takes, transformed_depths}
 use Rattle.canonical_nests.specs.declared.rules.LoopBreach.{LoopBreach}
 use Rattle.canonical_nests.specs.declared.rules.LoopRule.TheVariants.{L7, L22}
 use Rattle.canonical_nests.specs.LoopRules.BreachSets.{least, breach_if}
-use Rattle.canonical_nests.specs.LoopRules.PlacedPlans.{PlacedPlan, PlacedItems, plan, applied_at}
+use Rattle.canonical_nests.specs.LoopRules.PlacedPlans.{PlacedPlan, PlacedItems, applied_at}
 use Rattle.canonical_nests.specs.LoopRules.Structure.{depth_breaches, depth_at, after_item, plan_breaches, items_breaches}
 use Rattle.canonical_nests.specs.Plans.{seen_transformation, seen_plan, seen_item, gather}
 use Rattle.canonical_nests.specs.declared.plan.Plan.{Plan, out-Plan}

@@ -1,5 +1,5 @@
 -- A list with one statement and any other, without a block that alone holds its statements.
-use Rattle.std.proofs.Common.{◌≡◌, ◌∙◌, sym, ap, refl, ◌≢◌, ℕ, List, [], ◌∷◌, map, length, slice_index_or, arith}
+use Rattle.std.proofs.Common.{◌≡◌, ◌∙◌, sym, ap, refl, ◌≢◌, List, [], ◌∷◌, map, length, slice_index_or, arith}
 use Rattle.c_tree.specs.Placed as p
 use Rattle.c_tree.specs.PlacedOf.{placed_stmt, placed_stmts}
 use Rattle.c_tree.specs.declared.tree.Stmt.{Stmt}
