@@ -1,6 +1,5 @@
 -- A height counted up to a limit is above 256 exactly where the height is.
-use Rattle.std.proofs.Common.{◌≡◌, ◌∙◌, sym, ap, ◌-◌, ◌^◌, ◌<◌, ◌≤◌, ℕ, min, nat_lt, ◌⊎◌, inl, inr, arith}
-use Rattle.std.proofs.lemmas.Bool.{cases_lt}
+use Rattle.std.proofs.Common.{◌≡◌, ◌∙◌, sym, ap, ℕ, nat_lt, arith}
 use Rattle.c_tree.specs.BareOf.{bare_program}
 use Rattle.c_tree.specs.PlacedOf.{placed_program}
 use Rattle.c_tree.specs.Forget.{forget_program}
