@@ -1,0 +1,4 @@
+//! The loop rules of a whole program.
+#![tactic(auto)]
+
+pub mod height;
