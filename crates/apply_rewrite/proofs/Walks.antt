@@ -1,17 +1,23 @@
 -- What a loop over statements has left, and what holds of each of them.
-use Rattle.std.proofs.Common.{◌≡◌, refl, sym, ap, ◌∙◌, subst, ◌<◌, ◌≤◌, ◌+◌, ℕ, zero, suc, List, [], ◌∷◌, ◌++◌, length, drop, slice_index_or, Bool, true, false, ◌&&◌, ◌↔◌, arith}
+use Rattle.std.proofs.Common.{◌≡◌, refl, sym, ap, ◌∙◌, subst, ◌<◌, ◌≤◌, ◌+◌, ℕ, List, [], ◌∷◌, length, drop, slice_index_or, Bool, true, false, ◌&&◌, ◌↔◌, arith}
+use Rattle.std.specs.Prelude.{is_some}
+use Rattle.std.proofs.Math.Bool.{and-false}
 use Rattle.c_tree.specs.Bare as b
 use Rattle.c_tree.specs.Bare.{Expr, num, read, item, un, bin, cond, cast, Exprs, no_exprs, more_exprs, set, step, Stmts, no_stmts, more_stmts, head, MaybeStmt, no_stmt, a_stmt}
-use Rattle.c_tree.specs.BareOf.{bare_clauses, bare_stmt, bare_stmts}
+use Rattle.c_tree.specs.BareOf.{bare_clauses, bare_head, bare_stmt, bare_stmts, head_layer, stmt_layer}
 use Rattle.c_tree.specs.WellFormed.{WellFormedExpr, WellFormedExprs, WellFormedStmt, WellFormedStmts, WellFormedPart, MayEnd}
 use Rattle.c_tree.specs.Constants.{LiteralsAreHeld, EachLiteralIsHeld}
 use Rattle.canonical_nests.specs.Canonical.{PartIsHeld, StmtIsHeld}
 use Rattle.c_tree.specs.declared.tree.Clause.{Clause}
-use Rattle.c_tree.specs.declared.tree.Stmt.{Stmt}
-use Rattle.apply_rewrite.specs.CarriedOut.{is_none}
+use Rattle.c_tree.specs.declared.tree.ForHead.{ForHead}
+use Rattle.c_tree.specs.declared.tree.Span.{Span}
+use Rattle.c_tree.specs.declared.tree.Stmt.{Stmt, fold-roll-Stmt}
+use Rattle.c_tree.specs.declared.tree.Stmt.TheVariants as v
+use Rattle.c_tree.specs.declared.tree.Stmt.TheOpen as s
+use Rattle.apply_rewrite.specs.CarriedOut.{declared_loop, is_none}
 use Rattle.c_tree.proofs.Walks.{rest_more, rest_none}
 use Rattle.c_semantics.specs.Meaning.Expressions.{Define}
-use Rattle.apply_rewrite.specs.Reversible.{stays_in, all_stay_in, is_reversible, are_reversible, is_nest}
+use Rattle.apply_rewrite.specs.Reversible.{stays_in, all_stay_in, is_reversible, are_reversible, is_nest, is_nest_in}
 
 pub stay_more : (xs : List Stmt) (i : ℕ) (x : Stmt) → i < length xs → x ≡ slice_index_or xs i x → all_stay_in (bare_stmts (drop i xs)) ≡ (stays_in (bare_stmt x) && all_stay_in (bare_stmts (drop (i + 1) xs)))
 stay_more xs i = rest_more (λ ys. all_stay_in (bare_stmts ys)) xs i
@@ -25,10 +31,12 @@ reversible_more ds xs i = rest_more (λ ys. are_reversible ds (bare_stmts ys)) x
 pub reversible_end : (ds : List Define) (xs : List Stmt) (i : ℕ) → length xs ≤ i → are_reversible ds (bare_stmts (drop i xs)) ≡ true
 reversible_end ds xs i = rest_none (λ ys. are_reversible ds (bare_stmts ys)) xs i
 
-pub well_formed_at : (xs : List Stmt) (i : ℕ) (x : Stmt) → i < length xs → x ≡ slice_index_or xs i x → WellFormedStmts (bare_stmts xs) → WellFormedStmt (bare_stmt x)
-well_formed_at [] i x h at w = absurd (omega arith)
-well_formed_at (y ∷ ys) zero x h at w = subst (λ z. WellFormedStmt (bare_stmt z)) (sym at) w.0
-well_formed_at (y ∷ ys) (suc i) x h at w = well_formed_at ys i x (omega arith) at w.1
+abbrev Formed : List Stmt → Type 0
+Formed ys = WellFormedStmts (bare_stmts ys)
+
+pub stmts_formed : (xs : List Stmt) (i : ℕ) (x : Stmt) → i < length xs → x ≡ slice_index_or xs i x → WellFormedStmts (bare_stmts (drop i xs))
+    → WellFormedStmt (bare_stmt x) × WellFormedStmts (bare_stmts (drop (i + 1) xs))
+stmts_formed xs i x within is = subst Formed (rest_more (λ ys. ys) xs i x within is)
 
 -- ---- the literals of a well-formed statement have values that their types hold
 
@@ -63,6 +71,18 @@ several ds [] h = absurd (omega arith)
 several ds (x ∷ []) h = absurd (omega arith)
 several ds (x ∷ y ∷ xs) h = refl
 
+-- ---- a loop whose body may not be kept
+
+bare_for : (a : Stmt) (h : ForHead) (body : List Stmt) (at : Span) → a ≡ v.For h body at → bare_stmt a ≡ b.for_ (bare_head h) (bare_stmts body)
+bare_for a h body at is = ap bare_stmt is ∙ (ap bare_stmt (sym (v.rolls-For h body at)) ∙ fold-roll-Stmt b.Stmt b.Head stmt_layer head_layer (s.For h body at))
+
+pub not_kept : (ds : List Define) (a : Stmt) (h : ForHead) (body : List Stmt) (at : Span) (xs : List Stmt) (t : Bool) → a ≡ v.For h body at → xs ≡ body
+    → t ≡ (all_stay_in (bare_stmts xs) && are_reversible ds (bare_stmts xs)) → t ≡ false → t ≡ is_nest_in ds (bare_stmt a)
+not_kept ds a h body at xs t is are kept fails =
+    let none : (all_stay_in (bare_stmts body) && are_reversible ds (bare_stmts body)) ≡ false =
+    ap (λ ys. all_stay_in (bare_stmts ys) && are_reversible ds (bare_stmts ys)) (sym are) ∙ (sym kept ∙ fails) in
+    fails ∙ sym (ap (is_nest_in ds) (bare_for a h body at is) ∙ (ap (λ k. is_some (declared_loop ds (bare_head h)) && k) none ∙ and-false (is_some (declared_loop ds (bare_head h)))))
+
 pub none_where : (cs : List Clause) (t : Bool) → (t ≡ true ↔ (cs ≡ [])) → t ≡ is_none (bare_clauses cs)
 none_where [] t h = h.1 refl
 none_where (c ∷ cs) true h = let e : c ∷ cs ≡ [] = h.0 refl in absurd (cc)
@@ -70,6 +90,6 @@ none_where (c ∷ cs) false h = refl
 
 pub ruleset staying = (stay_more, stay_end)
 
-pub ruleset reversing = (reversible_more, reversible_end, well_formed_at)
+pub ruleset reversing = (reversible_more, reversible_end, stmts_formed)
 
 pub ruleset held = (stmt_held)

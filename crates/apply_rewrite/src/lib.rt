@@ -5,3 +5,4 @@ mod defines;
 mod heads;
 pub mod laws;
 pub mod reversible;
+mod source_names;

@@ -167,7 +167,7 @@ fn is_nest_in(defines: &Program, stmt: &Stmt) -> bool
 {
     match stmt {
         Stmt::For { body, .. } => {
-            is_declared_loop(defines, stmt) && are_kept(defines, body.as_slice())
+            are_kept(defines, body.as_slice()) && is_declared_loop(defines, stmt)
         }
         Stmt::Block { body, .. } => is_nest(defines, body.as_slice()),
         Stmt::Omp {

@@ -219,7 +219,7 @@ fn program_names(alloc: Global, program: &Program) -> Result<Vec<Name>, AllocErr
 }
 
 /// Fresh names beside a program: none of them is a name of its variables, functions and defines.
-pub fn fresh_beside(alloc: Global, program: &Program) -> Result<Fresh, AllocError>
+pub(crate) fn fresh_beside(alloc: Global, program: &Program) -> Result<Fresh, AllocError>
     ensures { IfOk result (λ fresh. fresh ≡ n.beside_program (bare_program program.now)) }
 {
     let names = program_names(alloc, program)?;
