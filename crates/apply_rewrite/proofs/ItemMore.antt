@@ -1,5 +1,5 @@
 -- Carrying out one item more.
-use Rattle.std.proofs.Common.{◌≡◌, refl, ap, ◌∙◌, subst, List, [], ◌∷◌, ◌++◌, map}
+use Rattle.std.proofs.Common.{◌≡◌, refl, ap, subst, List, [], ◌∷◌, ◌++◌, map}
 use Rattle.c_tree.specs.Bare.{Top, define, extern_, global, function, main, Program}
 use Rattle.c_tree.specs.BareOf.{bare_top}
 use Rattle.c_tree.specs.WellFormed.{WellFormedTop, WellFormedTops}
@@ -40,11 +40,11 @@ pub mapped_more : (xs : List Item) (x : Item) → map bare_top (xs ++ x ∷ []) 
 mapped_more [] x = refl
 mapped_more (y ∷ xs) x = ap (λ l. bare_top y ∷ l) (mapped_more xs x)
 
-among_tops : (xs : List Item) (x : Item) (ys : List Item) → WellFormedTops (map bare_top (xs ++ x ∷ ys)) → WellFormedTop (bare_top x)
-among_tops [] x ys w = w.0
-among_tops (z ∷ xs) x ys w = among_tops xs x ys w.1
+abbrev Formed : List Item → Type 0
+Formed ys = WellFormedTops (map bare_top ys)
 
-pub next_top_well_formed : (xs : List Item) (x : Item) (ys all : List Item) → all ≡ xs ++ x ∷ ys → WellFormedTops (map bare_top all) → WellFormedTop (bare_top x)
-next_top_well_formed xs x ys all e w = among_tops xs x ys (subst (λ zs. WellFormedTops (map bare_top zs)) e w)
+pub first_top_formed : (all : List Item) (x : Item) (xs : List Item) → all ≡ x ∷ xs → WellFormedTops (map bare_top all)
+    → WellFormedTop (bare_top x) × WellFormedTops (map bare_top xs)
+first_top_formed all x xs is = subst Formed is
 
-pub ruleset carrying_items = (defines_more, tops_more, tops_left_more, top_same, mapped_more)
+pub ruleset carrying_items = (defines_more, tops_more, tops_left_more, top_same, mapped_more, first_top_formed)

@@ -11,6 +11,7 @@ pub mod Items
 pub mod SourceNames
 pub mod Skeletons
 pub mod WellFormedCode
+pub mod RunsAlike
 pub mod Gathered
 pub mod StatementMore
 pub mod ItemMore
