@@ -1,4 +1,10 @@
 //! The constructs of a program carried out.
 #![tactic(auto)]
 
+mod carrying;
+mod defines;
+mod heads;
 pub mod laws;
+pub mod reversible;
+pub mod rewrite;
+mod source_names;

@@ -1,0 +1,95 @@
+-- What a loop over statements has left, and what holds of each of them.
+use Rattle.std.proofs.Common.{◌≡◌, refl, sym, ap, ◌∙◌, subst, ◌<◌, ◌≤◌, ◌+◌, ℕ, List, [], ◌∷◌, length, drop, slice_index_or, Bool, true, false, ◌&&◌, ◌↔◌, arith}
+use Rattle.std.specs.Prelude.{is_some}
+use Rattle.std.proofs.Math.Bool.{and-false}
+use Rattle.c_tree.specs.Bare as b
+use Rattle.c_tree.specs.Bare.{Expr, num, read, item, un, bin, cond, cast, Exprs, no_exprs, more_exprs, set, step, Stmts, no_stmts, more_stmts, head, MaybeStmt, no_stmt, a_stmt}
+use Rattle.c_tree.specs.BareOf.{bare_clauses, bare_head, bare_stmt, bare_stmts, head_layer, stmt_layer}
+use Rattle.c_tree.specs.WellFormed.{WellFormedExpr, WellFormedExprs, WellFormedStmt, WellFormedStmts, WellFormedPart, MayEnd}
+use Rattle.c_tree.specs.Constants.{LiteralsAreHeld, EachLiteralIsHeld}
+use Rattle.canonical_nests.specs.Canonical.{PartIsHeld, StmtIsHeld}
+use Rattle.c_tree.specs.declared.tree.Clause.{Clause}
+use Rattle.c_tree.specs.declared.tree.ForHead.{ForHead}
+use Rattle.c_tree.specs.declared.tree.Span.{Span}
+use Rattle.c_tree.specs.declared.tree.Stmt.{Stmt, fold-roll-Stmt}
+use Rattle.c_tree.specs.declared.tree.Stmt.TheVariants as v
+use Rattle.c_tree.specs.declared.tree.Stmt.TheOpen as s
+use Rattle.apply_rewrite.specs.CarriedOut.{declared_loop, is_none}
+use Rattle.c_tree.proofs.Walks.{rest_more, rest_none}
+use Rattle.c_semantics.specs.Meaning.Expressions.{Define}
+use Rattle.apply_rewrite.specs.Reversible.{stays_in, all_stay_in, is_reversible, are_reversible, is_nest, is_nest_in}
+
+pub stay_more : (xs : List Stmt) (i : ℕ) (x : Stmt) → i < length xs → x ≡ slice_index_or xs i x → all_stay_in (bare_stmts (drop i xs)) ≡ (stays_in (bare_stmt x) && all_stay_in (bare_stmts (drop (i + 1) xs)))
+stay_more xs i = rest_more (λ ys. all_stay_in (bare_stmts ys)) xs i
+
+pub stay_end : (xs : List Stmt) (i : ℕ) → length xs ≤ i → all_stay_in (bare_stmts (drop i xs)) ≡ true
+stay_end xs i = rest_none (λ ys. all_stay_in (bare_stmts ys)) xs i
+
+pub reversible_more : (ds : List Define) (xs : List Stmt) (i : ℕ) (x : Stmt) → i < length xs → x ≡ slice_index_or xs i x → are_reversible ds (bare_stmts (drop i xs)) ≡ (is_reversible ds (bare_stmt x) && are_reversible ds (bare_stmts (drop (i + 1) xs)))
+reversible_more ds xs i = rest_more (λ ys. are_reversible ds (bare_stmts ys)) xs i
+
+pub reversible_end : (ds : List Define) (xs : List Stmt) (i : ℕ) → length xs ≤ i → are_reversible ds (bare_stmts (drop i xs)) ≡ true
+reversible_end ds xs i = rest_none (λ ys. are_reversible ds (bare_stmts ys)) xs i
+
+abbrev Formed : List Stmt → Type 0
+Formed ys = WellFormedStmts (bare_stmts ys)
+
+pub stmts_formed : (xs : List Stmt) (i : ℕ) (x : Stmt) → i < length xs → x ≡ slice_index_or xs i x → WellFormedStmts (bare_stmts (drop i xs))
+    → WellFormedStmt (bare_stmt x) × WellFormedStmts (bare_stmts (drop (i + 1) xs))
+stmts_formed xs i x within is = subst Formed (rest_more (λ ys. ys) xs i x within is)
+
+-- ---- the literals of a well-formed statement have values that their types hold
+
+mutual
+  expr_held : (e : Expr) → WellFormedExpr e → LiteralsAreHeld e
+  expr_held (num k t) w = w
+  expr_held (read x) w = tt
+  expr_held (item x es) w = exprs_held es w.2
+  expr_held (un op a) w = expr_held a w
+  expr_held (bin op a b) w = (expr_held a w.0, expr_held b w.1)
+  expr_held (cond a b c) w = (expr_held a w.0, expr_held b w.1, expr_held c w.2)
+  expr_held (cast t a) w = expr_held a w
+
+  exprs_held : (es : Exprs) → WellFormedExprs es → EachLiteralIsHeld es
+  exprs_held no_exprs w = tt
+  exprs_held (more_exprs e es) w = (expr_held e w.0, exprs_held es w.1)
+
+part_held : (a : MaybeStmt) → MayEnd a → WellFormedPart a → PartIsHeld a
+part_held no_stmt h w = tt
+part_held (a_stmt (set t op e)) h w = expr_held e w.1
+part_held (a_stmt (step t up)) h w = tt
+part_held (a_stmt a) h w = absurd h
+
+pub stmt_held : (a : b.Stmt) → WellFormedStmt a → StmtIsHeld a
+stmt_held (b.for_ (head i e next) a) w = part_held next w.0.3 w.0.4
+stmt_held a w = tt
+
+-- ---- lists of several statements, and of clauses
+
+pub several : (ds : List Define) (xs : List Stmt) → 2 ≤ length xs → is_nest ds (bare_stmts xs) ≡ false
+several ds [] h = absurd (omega arith)
+several ds (x ∷ []) h = absurd (omega arith)
+several ds (x ∷ y ∷ xs) h = refl
+
+-- ---- a loop whose body may not be kept
+
+bare_for : (a : Stmt) (h : ForHead) (body : List Stmt) (at : Span) → a ≡ v.For h body at → bare_stmt a ≡ b.for_ (bare_head h) (bare_stmts body)
+bare_for a h body at is = ap bare_stmt is ∙ (ap bare_stmt (sym (v.rolls-For h body at)) ∙ fold-roll-Stmt b.Stmt b.Head stmt_layer head_layer (s.For h body at))
+
+pub not_kept : (ds : List Define) (a : Stmt) (h : ForHead) (body : List Stmt) (at : Span) (xs : List Stmt) (t : Bool) → a ≡ v.For h body at → xs ≡ body
+    → t ≡ (all_stay_in (bare_stmts xs) && are_reversible ds (bare_stmts xs)) → t ≡ false → t ≡ is_nest_in ds (bare_stmt a)
+not_kept ds a h body at xs t is are kept fails =
+    let none : (all_stay_in (bare_stmts body) && are_reversible ds (bare_stmts body)) ≡ false =
+    ap (λ ys. all_stay_in (bare_stmts ys) && are_reversible ds (bare_stmts ys)) (sym are) ∙ (sym kept ∙ fails) in
+    fails ∙ sym (ap (is_nest_in ds) (bare_for a h body at is) ∙ (ap (λ k. is_some (declared_loop ds (bare_head h)) && k) none ∙ and-false (is_some (declared_loop ds (bare_head h)))))
+
+pub none_where : (cs : List Clause) (t : Bool) → (t ≡ true ↔ (cs ≡ [])) → t ≡ is_none (bare_clauses cs)
+none_where [] t h = h.1 refl
+none_where (c ∷ cs) true h = let e : c ∷ cs ≡ [] = h.0 refl in absurd (cc)
+none_where (c ∷ cs) false h = refl
+
+pub ruleset staying = (stay_more, stay_end)
+
+pub ruleset reversing = (reversible_more, reversible_end, stmts_formed)
+
+pub ruleset held = (stmt_held)
