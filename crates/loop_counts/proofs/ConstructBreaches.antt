@@ -1,8 +1,8 @@
 -- The breaches of the rules of counts in a statement by what it is, and in a construct.
-use Rattle.std.proofs.Common.{◌≡◌, ◌∙◌, refl, sym, ap, ◌<◌, ◌≤◌, ◌+◌, ◌-◌, ℕ, zero, suc, List, length, drop, slice_index_or, Option, Some, None, arith}
-use Rattle.c_tree.specs.Placed.{Stmt, decl, set, step, print, input, if_, if_else, while_, do_, for_, block, break_, continue_, empty, omp, call, Head, head}
+use Rattle.std.proofs.Common.{◌≡◌, ◌∙◌, refl, sym, ap, ◌<◌, ◌≤◌, ◌+◌, ◌-◌, ℕ, zero, suc, List, length, drop, slice_index_or, Option, None, arith}
+use Rattle.c_tree.specs.Placed.{Stmt, decl, set, step, print, input, if_, if_else, while_, do_, for_, block, break_, continue_, empty, omp, call, head}
 use Rattle.c_tree.specs.Bare as b
-use Rattle.c_tree.specs.BareOf.{bare_directive, bare_head, bare_stmt, bare_stmts, item_layer, kind_layer, clause_layer, directive_layer}
+use Rattle.c_tree.specs.BareOf.{bare_directive, bare_head, bare_stmts, item_layer, kind_layer, clause_layer, directive_layer}
 use Rattle.c_tree.specs.PlacedOf.{placed_directive, placed_head, placed_stmt, placed_stmts}
 use Rattle.c_tree.specs.Forget.{forget_directive, forget_head, forget_stmts}
 use Rattle.c_tree.specs.declared.tree.Stmt as code
@@ -22,8 +22,8 @@ use Rattle.c_semantics.specs.Loops.Need.{loops_asked}
 use Rattle.canonical_nests.specs.Kinds.{Part}
 use Rattle.canonical_nests.specs.Shapes.{body_kinds}
 use Rattle.canonical_nests.specs.LoopRules.PlacedPlans.{PlacedPlan, placed_plan}
-use Rattle.canonical_nests.specs.LoopRules.BreachSets.{BreachSet, least, lesser}
-use Rattle.canonical_nests.specs.LoopRules.Counts.{plan_breaches, directive_breaches, stmt_breaches, stmts_breaches, scope_of}
+use Rattle.canonical_nests.specs.LoopRules.BreachSets.{least, lesser}
+use Rattle.canonical_nests.specs.LoopRules.Counts.{plan_breaches, directive_breaches, stmt_breaches, stmts_breaches}
 use Rattle.canonical_nests.specs.declared.rules.LoopBreach.{LoopBreach}
 use Rattle.canonical_nests.proofs.Order.{lesser_joins, lesser_none}
 use Rattle.loop_counts.specs.Wanted.{in_head}

@@ -1,5 +1,5 @@
 -- The parts of a well-formed head.
-use Rattle.std.proofs.Common.{◌≡◌, ap, subst, Option, Some}
+use Rattle.std.proofs.Common.{◌≡◌, subst, Some}
 use Rattle.std.specs.Option.{option_map}
 use Rattle.c_tree.specs.BareOf.{bare_expr, bare_stmt, bare_head, maybe_stmt}
 use Rattle.c_tree.specs.WellFormed.{WellFormedExpr, WellFormedOption, WellFormedStmt, WellFormedPart, WellFormedHead}

@@ -1,8 +1,8 @@
 -- The parts of a statement by what it is, and what a loop over members has left.
 use Rattle.std.specs.Prelude.{◌==◌}
-use Rattle.std.proofs.Common.{◌≡◌, ◌∙◌, refl, sym, ap, subst, Bool, true, false, ◌<◌, ◌≤◌, ◌+◌, ◌-◌, ◌≢◌, ℕ, zero, suc, List, [], ◌∷◌, ◌++◌, length, drop, slice_index_or, arith, length-drop}
+use Rattle.std.proofs.Common.{◌≡◌, ◌∙◌, refl, sym, ap, subst, Bool, false, ◌<◌, ◌≤◌, ◌+◌, ◌-◌, ◌≢◌, ℕ, zero, suc, List, [], ◌∷◌, ◌++◌, length, drop, slice_index_or, arith, length-drop}
 use Rattle.std.proofs.lemmas.List.{append-nil}
-use Rattle.c_tree.specs.Bare.{Stmt, decl, set, step, print, input, if_, if_else, while_, do_, for_, block, break_, continue_, empty, omp, call, Stmts, no_stmts, more_stmts, Head, head, MaybeStmt, no_stmt, a_stmt}
+use Rattle.c_tree.specs.Bare.{Stmt, decl, set, step, print, input, if_, if_else, while_, do_, for_, block, break_, continue_, empty, omp, call, Stmts, no_stmts, more_stmts, Head, head, no_stmt, a_stmt}
 use Rattle.c_tree.specs.BareOf.{bare_stmt, bare_stmts}
 use Rattle.c_tree.specs.WellFormed.{WellFormedStmt, WellFormedStmts}
 use Rattle.c_tree.specs.declared.tree.Stmt as code
@@ -11,7 +11,6 @@ use Rattle.c_tree.proofs.Walks.{rest_more, rest_none}
 use Rattle.c_semantics.specs.Meaning.State.{State, Var, with_frame, keep}
 use Rattle.c_semantics.specs.Meaning.Expressions.{Define}
 use Rattle.c_semantics.specs.Structure.Skeleton.{scope_after, scope_in}
-use Rattle.canonical_nests.specs.Kinds.{Part}
 use Rattle.canonical_nests.specs.Shapes.{source_kind, below_source, stmt_kinds, single_kinds, member_kinds}
 use Rattle.loop_counts.specs.Wanted.{in_head, wanted_kinds, last_kinds, member_of}
 

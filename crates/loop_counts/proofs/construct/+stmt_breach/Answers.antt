@@ -1,12 +1,12 @@
 -- A construct: its own breaches, and those of the directives that it takes. One statement more.
-use Rattle.std.proofs.Common.{◌≡◌, ◌∙◌, ap, sym, drop}
-use Rattle.c_tree.specs.BareOf.{bare_directive, bare_stmts}
-use Rattle.c_tree.specs.PlacedOf.{placed_stmt, placed_stmts}
+use Rattle.std.proofs.Common.{◌∙◌, ap, sym}
+use Rattle.c_tree.specs.BareOf.{bare_stmts}
+use Rattle.c_tree.specs.PlacedOf.{placed_stmts}
 use Rattle.c_semantics.specs.Loops.Need.{loops_asked}
 use Rattle.canonical_nests.specs.Shapes.{found_by, single_kinds, member_kinds}
 use Rattle.canonical_nests.specs.Plans.{seen_plan}
-use Rattle.canonical_nests.specs.LoopRules.BreachSets.{least, lesser}
-use Rattle.canonical_nests.specs.LoopRules.Counts.{plan_breaches, stmt_breaches, stmts_breaches}
+use Rattle.canonical_nests.specs.LoopRules.BreachSets.{least}
+use Rattle.canonical_nests.specs.LoopRules.Counts.{plan_breaches, stmts_breaches}
 use Rattle.loop_counts.proofs.ConstructBreaches.{construct_is, kind_is}
 use Rattle.loop_counts.proofs.construct.+stmt_breach.Goals as goal
 

@@ -1,7 +1,7 @@
 -- One member more; and the parts of the one statement.
-use Rattle.std.proofs.Common.{◌≡◌, ◌∙◌, ◌+◌, ◌-◌, ◌++◌, ap, refl, sym, subst, drop, length, arith, IfOk}
+use Rattle.std.proofs.Common.{◌≡◌, ◌∙◌, ◌-◌, ◌++◌, ap, refl, sym, subst, arith, IfOk}
 use Rattle.std.specs.Prelude.{◌==◌}
-use Rattle.c_tree.specs.BareOf.{bare_stmt, bare_stmts}
+use Rattle.c_tree.specs.BareOf.{bare_stmt}
 use Rattle.canonical_nests.proofs.HeldTrees.{good_more}
 use Rattle.loop_counts.specs.Wanted.{member_of}
 use Rattle.loop_counts.proofs.Parts.{pushed_more}
