@@ -1,16 +1,14 @@
 -- Whether a program is too heavy.
-use Rattle.std.proofs.Common.{◌≡◌, ◌∙◌, refl, sym, ap, ℕ, ◌≢◌, min, Bool, true, false, Option, Some, None, arith}
+use Rattle.std.proofs.Common.{◌≡◌, ◌∙◌, sym, ap, ℕ, ◌≢◌, min, Bool, true, false, Some, None, arith}
 use Rattle.std.specs.Prelude.{nat_lt}
 use Rattle.std.proofs.lemmas.Bool.Decides.{nat_tests}
 use Rattle.c_tree.specs.BareOf.{bare_program}
 use Rattle.c_tree.specs.PlacedOf.{placed_program}
-use Rattle.c_tree.specs.Forget.{forget_program}
 use Rattle.c_tree.specs.declared.tree.Program.{Program}
 use Rattle.c_tree.proofs.Forgotten.Programs.{bare_program_is}
 use Rattle.canonical_nests.specs.Weight.{weight, most_weight}
 use Rattle.canonical_nests.specs.LoopRules.BreachSets.{least, breach_if}
 use Rattle.canonical_nests.specs.LoopRules.Programs.{weight_breaches}
-use Rattle.canonical_nests.specs.declared.rules.LoopBreach.{LoopBreach}
 use Rattle.canonical_nests.specs.declared.rules.LoopRule.TheVariants.{L27}
 
 above : (n : ℕ) → min n 1048577 ≡ 1048577 → nat_lt most_weight n ≡ true

@@ -1,6 +1,5 @@
 -- The copies that the items make which a loop has left.
-use Rattle.std.proofs.Common.{◌≡◌, ◌∙◌, refl, sym, ap, ◌<◌, ◌≤◌, ◌+◌, ◌*◌, ℕ, List, map, min, length, drop, slice_index_or, arith}
-use Rattle.std.proofs.Math.Nat.{mul_comm}
+use Rattle.std.proofs.Common.{◌≡◌, ◌∙◌, sym, ap, ◌<◌, ◌≤◌, ◌+◌, ◌*◌, ℕ, List, map, min, length, drop, slice_index_or, arith}
 use Rattle.c_tree.proofs.Walks.{rest_more, rest_none}
 use Rattle.c_semantics.specs.Loops.Transformations as t
 use Rattle.canonical_nests.specs.Kinds.{Part, kind_at, at_part, below_loops, on_position, plan_kinds}
@@ -13,7 +12,7 @@ use Rattle.canonical_nests.proofs.Applied.{seen_item_out}
 use Rattle.loop_counts.proofs.Applied.{position_is}
 use Rattle.loop_counts.proofs.ItemBreaches.{round_is, parts_from}
 use Rattle.loop_counts.proofs.Parts.{kind_there, kind_past}
-use Rattle.loop_weight.proofs.Caps.{min_times_left, min_times_right}
+use Rattle.loop_weight.proofs.Caps.{min_times_left}
 
 pub count_past : (ks : Part) (n : ℕ) → length ks ≤ n → count_or_one (kind_at ks n) ≡ 1
 count_past ks n le = ap count_or_one (kind_past n ks le)

@@ -1,5 +1,5 @@
 -- The weight of the items that a loop has left.
-use Rattle.std.proofs.Common.{◌≡◌, ◌∙◌, refl, sym, ap, subst, ◌<◌, ◌≤◌, ◌+◌, ℕ, zero, suc, List, [], ◌∷◌, map, length, drop, slice_index_or, arith}
+use Rattle.std.proofs.Common.{◌≡◌, refl, sym, subst, ◌<◌, ◌≤◌, ◌+◌, ℕ, zero, suc, List, [], ◌∷◌, map, length, drop, slice_index_or, arith}
 use Rattle.c_tree.specs.Bare.{Top, define, extern_, global, function, main}
 use Rattle.c_tree.specs.BareOf.{bare_top}
 use Rattle.c_tree.specs.WellFormed.{WellFormedTop, WellFormedTops}

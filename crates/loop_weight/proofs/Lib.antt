@@ -1,5 +1,7 @@
 pub mod Breaches
 pub mod Caps
+pub mod Choices
+pub mod Constructs
 pub mod Copies
 pub mod Functions
 pub mod Items

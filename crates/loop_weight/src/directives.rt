@@ -1,6 +1,6 @@
 //! The weights that directives add: 40 times 1 and the generated loops, of a directive and of all its items.
 
-ghost use Rattle.std.specs.Prelude.{◌≡◌};
+ghost use Rattle.std.specs.Prelude.{◌≡◌, ◌+◌, ◌*◌};
 ghost use Rattle.c_tree.specs.BareOf.{bare_directive, bare_clause, bare_clauses, bare_item, bare_items};
 ghost use Rattle.canonical_nests.specs.Weight as weight;
 ghost use Rattle.canonical_nests.specs.Weight.{capped_weight};

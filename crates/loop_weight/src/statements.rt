@@ -8,7 +8,7 @@ ghost use Rattle.c_tree.specs.WellFormed.{WellFormedDirective, WellFormedHead, W
 ghost use Rattle.canonical_nests.specs.Weight as weight;
 ghost use Rattle.canonical_nests.specs.Weight.{capped_weight};
 ghost use Rattle.loop_counts.specs.Wanted.{in_head};
-ghost use Rattle.loop_weight.specs.Constructs.{construct_weight, head_weight};
+ghost use Rattle.loop_weight.specs.Constructs.{construct_weight, head_weight, plain_weight};
 
 use crate::capped::{plus, times};
 use crate::copying::copies;
@@ -21,6 +21,32 @@ use loop_counts::planned::planned;
 use loop_counts::scope::Scope;
 use loop_counts::shapes::{body_kinds, declare, enter};
 use std::alloc::{AllocError, Global};
+
+/// The weight of a statement in which no other stands.
+#[tactic(auto, using(crate::proofs::Caps::sums))]
+fn plain_weight(stmt: &Stmt) -> u64
+    ensures { result ≡ capped_weight (plain_weight (bare_stmt stmt.now)) }
+{
+    match stmt {
+        Stmt::Decl { init, .. } => plus(1, option_weight(init)),
+        Stmt::Set { target, value, .. } => {
+            plus(plus(1, target_weight(target)), expr_weight(value))
+        }
+        Stmt::Step { target, .. } | Stmt::Input { target, .. } => plus(1, target_weight(target)),
+        Stmt::Print { value, .. } => plus(1, expr_weight(value)),
+        Stmt::Call { args, .. } => plus(1, exprs_weight(args.as_slice())),
+        Stmt::If { no: None, .. }
+        | Stmt::If { no: Some(_), .. }
+        | Stmt::While { .. }
+        | Stmt::Do { .. }
+        | Stmt::For { .. }
+        | Stmt::Block { .. }
+        | Stmt::Omp { .. }
+        | Stmt::Break { .. }
+        | Stmt::Continue { .. }
+        | Stmt::Empty { .. } => 1,
+    }
+}
 
 /// The weight of a statement of which a directive round it wants so many loops, up to the cap. Afterwards the same is
 /// visible as before.
@@ -37,32 +63,16 @@ pub fn stmt_weight<'p>(
     ensures scope { OnOk result (scope.new ≡ scope.old) }
 {
     match stmt {
-        Stmt::Decl { init, .. } => Ok(plus(1, option_weight(init))),
-        Stmt::Set { target, value, .. } => {
-            Ok(plus(plus(1, target_weight(target)), expr_weight(value)))
-        }
-        Stmt::Step { target, .. } | Stmt::Input { target, .. } => {
-            Ok(plus(1, target_weight(target)))
-        }
-        Stmt::Print { value, .. } => Ok(plus(1, expr_weight(value))),
-        Stmt::If {
-            test,
-            yes,
-            no: None,
-            ..
-        } => {
+        Stmt::If { test, yes, no, .. } => {
             let yes = stmts_weight(alloc, yes.as_slice(), 0, scope)?;
-            Ok(plus(plus(1, expr_weight(test)), yes))
-        }
-        Stmt::If {
-            test,
-            yes,
-            no: Some(no),
-            ..
-        } => {
-            let yes = stmts_weight(alloc, yes.as_slice(), 0, scope)?;
-            let no = stmts_weight(alloc, no.as_slice(), 0, scope)?;
-            Ok(plus(plus(plus(1, expr_weight(test)), yes), no))
+            let both = plus(plus(1, expr_weight(test)), yes);
+            match no {
+                None => Ok(both),
+                Some(no) => {
+                    let other = stmts_weight(alloc, no.as_slice(), 0, scope)?;
+                    Ok(plus(both, other))
+                }
+            }
         }
         Stmt::While { test, body, .. } => {
             let body = stmts_weight(alloc, body.as_slice(), 0, scope)?;
@@ -86,8 +96,15 @@ pub fn stmt_weight<'p>(
             body,
             ..
         } => omp_weight(alloc, body.as_slice(), directive, wanted, scope),
-        Stmt::Call { args, .. } => Ok(plus(1, exprs_weight(args.as_slice()))),
-        Stmt::Break { .. } | Stmt::Continue { .. } | Stmt::Empty { .. } => Ok(1),
+        Stmt::Decl { .. }
+        | Stmt::Set { .. }
+        | Stmt::Step { .. }
+        | Stmt::Print { .. }
+        | Stmt::Input { .. }
+        | Stmt::Call { .. }
+        | Stmt::Break { .. }
+        | Stmt::Continue { .. }
+        | Stmt::Empty { .. } => Ok(plain_weight(stmt)),
     }
 }
 
@@ -169,7 +186,7 @@ fn omp_weight<'p>(
 }
 
 /// The weight of a list of statements, up to the cap.
-#[tactic(auto, using(crate::proofs::Scopes::stmts, crate::proofs::Caps::sums))]
+#[tactic(auto, using(crate::proofs::Scopes::stmts, crate::proofs::Caps::sums, canonical_nests::proofs::HeldTrees::held_trees))]
 #[cycle(stmt_weight)]
 pub fn stmts_weight<'p>(
     alloc: Global,

@@ -1,5 +1,6 @@
 use Rattle.std.proofs.Common.{◌≡◌, ◌+◌, ◌≤◌, length, drop}
 use Rattle.c_tree.specs.BareOf.{bare_stmts}
+use Rattle.c_tree.specs.WellFormed.{WellFormedStmts}
 use Rattle.c_semantics.specs.Meaning.State.{with_frame, keep}
 use Rattle.canonical_nests.specs.Weight.{stmts_weight, capped_weight}
 use Rattle.loop_weight.proofs.statements.+stmt_weight.Given as goal
@@ -13,4 +14,5 @@ invariant-stmts_weight-each l = record {
   defines : l.scope.defines ≡ l.initial.scope.defines;
   outside : with_frame (keep l.len l.scope.state.frame) l.scope.state ≡ l.initial.scope.state;
   deep : l.len ≤ length l.scope.state.frame;
+  formed : WellFormedStmts (bare_stmts (drop l.stmt-index l.stmts));
 }
