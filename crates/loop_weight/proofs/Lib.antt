@@ -1,0 +1,9 @@
+pub mod Breaches
+pub mod Caps
+pub mod Choices
+pub mod Constructs
+pub mod Copies
+pub mod Functions
+pub mod Items
+pub mod Lists
+pub mod Scopes
