@@ -1,7 +1,7 @@
 -- A program with its reverse constructs carried out, inner ones first: each becomes a block. Fresh names are drawn in the
 -- order in which the code is made: those of a body, then those of its loop, then one for each directive round it.
 use Rattle.std.specs.Prelude.{List, [], ◌∷◌, Option, Some, None, Bool, true, false, if◌then◌else◌}
-use Rattle.c_tree.specs.Bare.{Stmt, if_, if_else, while_, do_, for_, block, omp, Directive, directive, no_clauses, Stmts, no_stmts, more_stmts, Head, Top, function, main, Program}
+use Rattle.c_tree.specs.Bare.{Stmt, if_, if_else, while_, do_, for_, block, omp, Directive, directive, Clauses, no_clauses, more_clauses, Stmts, no_stmts, more_stmts, Head, Top, function, main, Program}
 use Rattle.c_tree.specs.declared.tree.Ty.{Ty}
 use Rattle.c_tree.specs.declared.tree.Kind.TheVariants.{Reverse}
 use Rattle.c_semantics.specs.Meaning.Expressions.{Define}
@@ -29,9 +29,13 @@ where_declared (Some c) = with_type c c.ty
 abbrev pub declared_loop : List Define → Head → Option SourceLoop
 declared_loop ds h = where_declared (canonical ds h)
 
+abbrev pub is_none : Clauses → Bool
+is_none no_clauses = true
+is_none (more_clauses c cs) = false
+
 -- `reverse` without clauses
 abbrev pub is_bare_reverse : Directive → Bool
-is_bare_reverse (directive Reverse no_clauses) = true
+is_bare_reverse (directive Reverse cs) = is_none cs
 is_bare_reverse _ = false
 
 -- ---- what is made, and the names that are left after it

@@ -1,0 +1,13 @@
+use Rattle.std.proofs.Common.{◌≡◌, [], map, drop}
+use Rattle.c_tree.specs.BareOf.{bare_program, bare_top}
+use Rattle.c_tree.specs.Constants.{DefinesAreHeld}
+use Rattle.canonical_nests.specs.Canonical.{program_defines}
+use Rattle.apply_rewrite.specs.Reversible.{are_reversible_items}
+use Rattle.apply_rewrite.proofs.reversible.is_reversible_program.Given as goal
+
+-- What is left decides, after the defines so far.
+abbrev pub invariant-each : goal.invariant-each
+invariant-each l = record {
+  held : DefinesAreHeld (bare_program l.defines);
+  rest : are_reversible_items (program_defines (bare_program l.defines)) (map bare_top (drop l.item-index l.items)) ≡ are_reversible_items [] (map bare_top l.items);
+}

@@ -1,0 +1,18 @@
+use Rattle.std.proofs.Common.{◌≡◌, ◌++◌, [], map}
+use Rattle.std.specs.Vec.Iter.{into_iter_items}
+use Rattle.c_tree.specs.BareOf.{bare_program, bare_top}
+use Rattle.c_tree.specs.Constants.{DefinesAreHeld}
+use Rattle.canonical_nests.specs.Canonical.{program_defines}
+use Rattle.apply_rewrite.specs.CarriedOut.{carried_items}
+use Rattle.apply_rewrite.proofs.ItemMore.{defines_after}
+use Rattle.apply_rewrite.proofs.rewrite.carried_items.Given as goal
+
+-- What was carried out so far, with the defines so far, and the items that are left.
+abbrev pub invariant-each : goal.invariant-each
+invariant-each l = record {
+  whole : l.fn.items ≡ l.yielded ++ into_iter_items l.item-iterator;
+  held : DefinesAreHeld (bare_program l.defines);
+  defines : program_defines (bare_program l.defines) ≡ defines_after [] (map bare_top l.yielded);
+  tree : map bare_top l.done ≡ (carried_items [] (map bare_top l.yielded) l.initial.fresh).tree;
+  left : l.fresh ≡ (carried_items [] (map bare_top l.yielded) l.initial.fresh).left;
+}

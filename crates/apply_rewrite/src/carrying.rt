@@ -1,0 +1,213 @@
+//! Reverse constructs carried out, inner ones first: each becomes a block. Bodies are moved.
+
+ghost use Rattle.std.specs.Prelude.{◌≡◌, IfOk, OnOk};
+ghost use Rattle.std.specs.Option.{option_map};
+ghost use Rattle.c_tree.specs.Bare as b;
+ghost use Rattle.c_tree.specs.BareOf.{bare_program, bare_stmt, bare_stmts};
+ghost use Rattle.c_tree.specs.Constants.{DefinesAreHeld};
+ghost use Rattle.c_tree.specs.WellFormed.{WellFormedStmt, WellFormedStmts};
+ghost use Rattle.canonical_nests.specs.Canonical.{program_defines};
+ghost use Rattle.loop_normal.specs.Gens as g;
+ghost use Rattle.loop_normal.specs.GenOf.{bare_gen};
+ghost use Rattle.loop_normal.specs.SourceOf.{source_of};
+ghost use Rattle.apply_rewrite.specs.CarriedOut as c;
+
+use crate::heads::declared_loop;
+use crate::reversible::is_bare_reverse;
+use c_tree::tree::{Program, Stmt, StmtList};
+use loop_normal::fresh::Fresh;
+use loop_normal::generated::Gen;
+use loop_normal::normal::{OwnedLoop, normal_leaf};
+use loop_normal::pieces::{block, no_parts, no_stmts, split_first};
+use loop_normal::statements::statements;
+use permute_reverse::reversal::reverse;
+use std::alloc::{AllocError, Global};
+
+/// Code without a loop.
+fn no_code(alloc: Global) -> Gen
+    ensures { bare_gen result ≡ record { front = b.no_stmts; parts = g.no_parts } }
+{
+    Gen {
+        front: no_stmts(alloc),
+        parts: no_parts(alloc),
+    }
+}
+
+/// The normal form of a loop, where there is one.
+fn leaf(
+    alloc: Global,
+    head: Option<OwnedLoop>,
+    body: StmtList,
+    fresh: &mut Fresh,
+) -> Result<Gen, AllocError>
+    ensures tree { IfOk result (λ code. bare_gen code ≡ (c.made_leaf (option_map source_of head) (record { tree = bare_stmts body; left = fresh.old })).tree) }
+    ensures left { OnOk result (fresh.new ≡ (c.made_leaf (option_map source_of head) (record { tree = bare_stmts body; left = fresh.old })).left) }
+{
+    match head {
+        None => Ok(no_code(alloc)),
+        Some(head) => normal_leaf(alloc, head, body, fresh),
+    }
+}
+
+/// A statement with its constructs carried out.
+#[cycle(carrying)]
+fn carried(
+    alloc: Global,
+    defines: &Program,
+    stmt: Stmt,
+    fresh: &mut Fresh,
+) -> Result<Stmt, AllocError>
+    requires defines_held { DefinesAreHeld (bare_program defines.now) }
+    requires well_formed { WellFormedStmt (bare_stmt stmt) }
+    ensures tree { IfOk result (λ answer. bare_stmt answer ≡ (c.carried (program_defines (bare_program defines.now)) (bare_stmt stmt) fresh.old).tree) }
+    ensures left { OnOk result (fresh.new ≡ (c.carried (program_defines (bare_program defines.now)) (bare_stmt stmt) fresh.old).left) }
+{
+    match stmt {
+        Stmt::If {
+            test,
+            yes,
+            no,
+            span,
+        } => match no {
+            None => {
+                let yes = carried_all(alloc, defines, yes, fresh)?;
+                Ok(Stmt::If {
+                    test,
+                    yes,
+                    no: None,
+                    span,
+                })
+            }
+            Some(no) => {
+                let yes = carried_all(alloc, defines, yes, fresh)?;
+                let no = carried_all(alloc, defines, no, fresh)?;
+                Ok(Stmt::If {
+                    test,
+                    yes,
+                    no: Some(no),
+                    span,
+                })
+            }
+        },
+        Stmt::While { test, body, span } => {
+            let body = carried_all(alloc, defines, body, fresh)?;
+            Ok(Stmt::While { test, body, span })
+        }
+        Stmt::Do { body, test, span } => {
+            let body = carried_all(alloc, defines, body, fresh)?;
+            Ok(Stmt::Do { body, test, span })
+        }
+        Stmt::For { head, body, span } => {
+            let body = carried_all(alloc, defines, body, fresh)?;
+            Ok(Stmt::For { head, body, span })
+        }
+        Stmt::Block { body, span } => {
+            let body = carried_all(alloc, defines, body, fresh)?;
+            Ok(Stmt::Block { body, span })
+        }
+        Stmt::Omp {
+            directive,
+            body,
+            span,
+        } => {
+            if is_bare_reverse(&directive) {
+                let code = nest(alloc, defines, body, fresh)?;
+                let code = reverse(alloc, code, fresh)?;
+                return Ok(block(statements(alloc, code)?));
+            }
+            Ok(Stmt::Omp {
+                directive,
+                body,
+                span,
+            })
+        }
+        other => Ok(other),
+    }
+}
+
+/// A list with the constructs in it carried out.
+#[tactic(auto, using(crate::proofs::StatementMore::carrying))]
+#[cycle(carrying)]
+pub(crate) fn carried_all(
+    alloc: Global,
+    defines: &Program,
+    stmts: StmtList,
+    fresh: &mut Fresh,
+) -> Result<StmtList, AllocError>
+    requires defines_held { DefinesAreHeld (bare_program defines.now) }
+    requires well_formed { WellFormedStmts (bare_stmts stmts) }
+    ensures tree { IfOk result (λ answer. bare_stmts answer ≡ (c.carried_all (program_defines (bare_program defines.now)) (bare_stmts stmts) fresh.old).tree) }
+    ensures left { OnOk result (fresh.new ≡ (c.carried_all (program_defines (bare_program defines.now)) (bare_stmts stmts) fresh.old).left) }
+{
+    let mut done = StmtList::new(alloc);
+    'each: for stmt in stmts.into_items() {
+        done.push(carried(alloc, defines, stmt, fresh)?)?;
+    }
+    Ok(done)
+}
+
+/// The code of the loop that a list leads to, through braces and further directives, and none where it leads to none.
+#[tactic(auto, using(crate::proofs::StatementMore::carrying))]
+#[cycle(carrying)]
+fn nest(
+    alloc: Global,
+    defines: &Program,
+    stmts: StmtList,
+    fresh: &mut Fresh,
+) -> Result<Gen, AllocError>
+    requires defines_held { DefinesAreHeld (bare_program defines.now) }
+    requires well_formed { WellFormedStmts (bare_stmts stmts) }
+    ensures tree { IfOk result (λ code. bare_gen code ≡ (c.nest (program_defines (bare_program defines.now)) (bare_stmts stmts) fresh.old).tree) }
+    ensures left { OnOk result (fresh.new ≡ (c.nest (program_defines (bare_program defines.now)) (bare_stmts stmts) fresh.old).left) }
+{
+    let (stmt, rest) = match split_first(stmts) {
+        None => return Ok(no_code(alloc)),
+        Some(split) => split,
+    };
+    if rest.is_empty() {
+        nest_in(alloc, defines, stmt, fresh)
+    } else {
+        Ok(no_code(alloc))
+    }
+}
+
+#[tactic(auto, using(crate::proofs::StatementMore::carrying))]
+#[cycle(carrying)]
+fn nest_in(
+    alloc: Global,
+    defines: &Program,
+    stmt: Stmt,
+    fresh: &mut Fresh,
+) -> Result<Gen, AllocError>
+    requires defines_held { DefinesAreHeld (bare_program defines.now) }
+    requires well_formed { WellFormedStmt (bare_stmt stmt) }
+    ensures tree { IfOk result (λ code. bare_gen code ≡ (c.nest_in (program_defines (bare_program defines.now)) (bare_stmt stmt) fresh.old).tree) }
+    ensures left { OnOk result (fresh.new ≡ (c.nest_in (program_defines (bare_program defines.now)) (bare_stmt stmt) fresh.old).left) }
+{
+    match stmt {
+        Stmt::For { head, body, span } => {
+            let empty = Stmt::For {
+                head,
+                body: no_stmts(alloc),
+                span,
+            };
+            let found = declared_loop(alloc, defines, &empty)?;
+            drop(empty);
+            let body = carried_all(alloc, defines, body, fresh)?;
+            leaf(alloc, found, body, fresh)
+        }
+        Stmt::Block { body, span: _span } => nest(alloc, defines, body, fresh),
+        Stmt::Omp {
+            directive,
+            body,
+            span: _span,
+        } => {
+            if is_bare_reverse(&directive) {
+                let code = nest(alloc, defines, body, fresh)?;
+                return reverse(alloc, code, fresh);
+            }
+            Ok(no_code(alloc))
+        }
+        _other => Ok(no_code(alloc)),
+    }
+}

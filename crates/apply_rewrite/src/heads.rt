@@ -1,0 +1,67 @@
+//! Loops that declare their variable, taken out of their statements.
+
+ghost use Rattle.std.specs.Prelude.{◌≡◌, IfOk};
+ghost use Rattle.std.specs.Option.{option_map};
+ghost use Rattle.c_tree.specs.BareOf.{bare_program, bare_stmt};
+ghost use Rattle.c_tree.specs.Constants.{DefinesAreHeld};
+ghost use Rattle.c_tree.specs.WellFormed.{WellFormedStmt};
+ghost use Rattle.canonical_nests.specs.Canonical.{canonical_stmt, program_defines, seen_loop, test_op};
+ghost use Rattle.loop_normal.specs.SourceOf.{source_of};
+ghost use Rattle.loop_normal.specs.Laws.{source_loop};
+ghost use Rattle.apply_rewrite.specs.CarriedOut.{where_declared};
+
+use c_tree::copy::copy_expr;
+use c_tree::tree::{BinOp, Program, Stmt, Ty};
+use canonical_nests::canonical::{CanonLoop, Test, canonical};
+use loop_normal::normal::OwnedLoop;
+use std::alloc::{AllocError, Global};
+
+fn operator(test: Test) -> BinOp
+    ensures { result ≡ test_op test }
+{
+    match test {
+        Test::Lt => BinOp::Lt,
+        Test::Le => BinOp::Le,
+        Test::Gt => BinOp::Gt,
+        Test::Ge => BinOp::Ge,
+        Test::Ne => BinOp::Ne,
+    }
+}
+
+/// The parts of a loop whose variable has this type, copied.
+fn copied(alloc: Global, found: CanonLoop, ty: Ty) -> Result<OwnedLoop, AllocError>
+    ensures { IfOk result (λ head. source_of head ≡ source_loop (seen_loop found.entry) ty) }
+{
+    let var = found.var.copy(alloc)?;
+    let lb = copy_expr(alloc, found.lb)?;
+    let ub = copy_expr(alloc, found.ub)?;
+    Ok(OwnedLoop {
+        var,
+        ty,
+        lb,
+        ub,
+        test: operator(found.test),
+        step: found.step,
+    })
+}
+
+/// The parts of a canonical loop that declares its variable, and `None` exactly for any other statement.
+#[tactic(auto, using(crate::proofs::Walks::held))]
+pub(crate) fn declared_loop(
+    alloc: Global,
+    defines: &Program,
+    stmt: &Stmt,
+) -> Result<Option<OwnedLoop>, AllocError>
+    requires defines_held { DefinesAreHeld (bare_program defines.now) }
+    requires well_formed { WellFormedStmt (bare_stmt stmt.now) }
+    ensures { IfOk result (λ head. option_map source_of head ≡ where_declared (canonical_stmt (program_defines (bare_program defines.now)) (bare_stmt stmt.now))) }
+{
+    let found = match canonical(defines, stmt) {
+        None => return Ok(None),
+        Some(found) => found,
+    };
+    match found.ty {
+        None => Ok(None),
+        Some(ty) => Ok(Some(copied(alloc, found, ty)?)),
+    }
+}
