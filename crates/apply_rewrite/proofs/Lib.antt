@@ -11,8 +11,3 @@ pub mod Items
 pub mod SourceNames
 pub mod Skeletons
 pub mod WellFormedCode
-pub mod Gathered
-pub mod StatementMore
-pub mod ItemMore
-pub mod ItemWalks
-pub mod Walks
