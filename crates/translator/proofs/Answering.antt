@@ -1,5 +1,5 @@
 -- The answers for the tokens of a text, by what stands for their program.
-use Rattle.std.proofs.Common.{◌≡◌, ℕ, List, Result, Ok, Err, IfOk, IfErr, OnOk, subst, sym}
+use Rattle.std.proofs.Common.{ℕ, List, Result, Ok, Err, IfOk, IfErr, OnOk}
 use Rattle.c_tree.specs.Bare.{Program}
 use Rattle.c_tree.specs.Placed as placed
 use Rattle.c_lexer.specs.Cut.{Cut}

@@ -1,13 +1,13 @@
 -- A program with its directives carried out does what the program does.
-use Rattle.std.proofs.Common.{◌≡◌, ℕ, ◌≤◌, ◌<◌, Bool, true, false, ◌&&◌, List, [], ◌∷◌, Option, Some, None, Result, Ok, Err, IfOk, IfErr, refl, sym, ◌∙◌, ap, subst, inl, inr, arith}
-use Rattle.c_tree.specs.Bare.{Stmt, decl, set, step, print, input, if_, if_else, while_, do_, for_, block, break_, continue_, empty, omp, call, Stmts, no_stmts, more_stmts, head, MaybeStmt, no_stmt, a_stmt, Top, define, extern_, global, function, main, Program}
+use Rattle.std.proofs.Common.{◌≡◌, ℕ, ◌≤◌, Bool, true, ◌&&◌, [], ◌∷◌, Some, None, refl, sym, ◌∙◌, ap, subst, inl, inr, arith}
+use Rattle.c_tree.specs.Bare.{Stmt, decl, set, step, print, input, if_, if_else, while_, do_, for_, block, break_, continue_, empty, omp, call, Stmts, no_stmts, more_stmts, head, MaybeStmt, no_stmt, a_stmt, define, extern_, global, function, main, Program}
 use Rattle.c_tree.specs.Placed as placed
 use Rattle.c_tree.specs.Checked.{most_height}
 use Rattle.c_tree.specs.Forget.{forget_program}
 use Rattle.c_tree.specs.Height.{program_height}
 use Rattle.c_tree.specs.WellFormed.{WellFormed}
 use Rattle.c_soundness.specs.NameBreaches.{BreaksNone}
-use Rattle.c_meaning.specs.Plain.{is_plain_stmt, are_plain_stmts, is_plain_part, is_plain_top, is_plain}
+use Rattle.c_meaning.specs.Plain.{is_plain_stmt, are_plain_stmts, is_plain_part, is_plain}
 use Rattle.canonical_nests.specs.LoopRules.Programs.{first_directive}
 use Rattle.apply_rewrite.specs.NoDirectives.{NoDirective, NoDirectives, NoDirectiveIf, HoldsNoDirective}
 use Rattle.apply_rewrite.specs.CarriedOut.{carried_out}

@@ -1,6 +1,5 @@
 -- A translation is accepted, and is translated to itself.
-use Rattle.std.proofs.Common.{◌≡◌, ℕ, ◌≤◌, true, List, None, ◌∙◌, sym, ap, subst, inl}
-use Rattle.c_tree.specs.Placed as placed
+use Rattle.std.proofs.Common.{◌≡◌, ℕ, ◌≤◌, true, List, ◌∙◌, sym, ap, subst, inl}
 use Rattle.c_tree.specs.Forget.{forget_program}
 use Rattle.c_tree.specs.Height.{program_height}
 use Rattle.c_grammar.specs.Programs.{tops_of}
@@ -25,7 +24,7 @@ accepted_again text written t =
     let q = back.program in
     let items = back.spelled.items in
     let within : program_height (forget_program (tops_of items)) ≤ 256 =
-        subst (λ b. program_height b ≤ 256) (sym back.same ∙ ap forget_program back.spelled.same) t.tree.height in
+    subst (λ b. program_height b ≤ 256) (sym back.same ∙ ap forget_program back.spelled.same) t.tree.height in
     let checked : SpellsChecked back.tokens q = record {
       tree = (items, back.spelled.spelled, sym back.spelled.same, (deep_where_above items).1 within);
       names = (breaches_without_places q).1 (subst BreaksNone (sym back.same) t.tree.names);

@@ -1,32 +1,22 @@
 -- A text has one answer: it is accepted, or refused in one way; only want of memory may stand in its place.
-use Rattle.std.proofs.Common.{◌≡◌, ℕ, List, Option, Some, None, refl, sym, subst, ◌∙◌, inl, inr, ap}
+use Rattle.std.proofs.Common.{◌≡◌, ℕ, List, Option, Some, None, refl, sym, subst, ◌∙◌, ap}
 use Rattle.c_tree.specs.Placed as placed
-use Rattle.c_tree.specs.NameRules.BreachSets.{BreachSet, none, one, ◌&◌, HasNone, lesser, least}
+use Rattle.c_tree.specs.NameRules.BreachSets.{least}
 use Rattle.c_tree.specs.NameRules.Programs.{breaches}
 use Rattle.c_tree.specs.declared.name_rule.Breach.{Breach}
 use Rattle.c_tree.specs.declared.name_rule.NameRule.{NameRule}
-use Rattle.c_lexer.specs.Cut.{Cut, FirstFault}
 use Rattle.c_lexer.specs.declared.token.Token.{Token}
-use Rattle.c_lexer.specs.declared.token.LexKind.{LexKind}
 use Rattle.c_lexer.proofs.Standing.{cut_once, fault_once, not_both}
 use Rattle.pragma_grammar.specs.declared.phrase.ParseKind.{ParseKind}
 use Rattle.pragma_grammar.specs.declared.phrase.ParseKind.TheVariants.{Syntax, Outside, TooDeep}
-use Rattle.c_grammar.specs.Programs.{Spells}
 use Rattle.c_grammar.specs.Reading.{IsTree, IsTooDeep, Blame}
 use Rattle.c_grammar.proofs.OneProgram.{one_program}
 use Rattle.c_grammar.proofs.OneAnswer.{one_blame, one_deep, tree_or_blame, tree_or_deep, deep_or_blame}
 use Rattle.canonical_nests.specs.LoopRules.Programs.{first_directive}
+use Rattle.translator.proofs.Breaches.{unbroken}
 use Rattle.translator.specs.Answers.{SpellsChecked, IsBuilt, TokensRefused, IsRefused, IsAccepted, IsCause}
 use Rattle.translator.specs.declared.refusal.Refusal.{Refusal}
 use Rattle.translator.specs.declared.refusal.Refusal.TheVariants.{Lex, Parse, Names, NotBuilt, Memory}
-
-least_of_none : (s : BreachSet) → HasNone s → least s ≡ None
-least_of_none none h = refl
-least_of_none (one b) h = absurd h
-least_of_none (x & y) h = rw (least_of_none x h.0, least_of_none y h.1) refl
-
-unbroken : (s : BreachSet) (b : Breach) → HasNone s → least s ≡ Some b → ⊥
-unbroken s b h e = let n = least_of_none s h in cc
 
 one_tree : (tokens : List Token) (p q : placed.Program) → IsTree tokens p → IsTree tokens q → p ≡ q
 one_tree tokens p q h k = one_program p q tokens (record { items = h.0; spelled = h.1; same = sym h.2 }) (record { items = k.0; spelled = k.1; same = sym k.2 })

@@ -1,5 +1,5 @@
 -- What stands for a program is the translated tree of a text of it, and its printed form is the text's translation.
-use Rattle.std.proofs.Common.{◌≡◌, ℕ, ◌≤◌, List, Result, Ok, Err, IfOk, IfErr, OnOk, MatchResult, refl, sym, subst}
+use Rattle.std.proofs.Common.{◌≡◌, ℕ, ◌≤◌, List, Result, Ok, Err, IfOk, IfErr, MatchResult, refl, sym, subst}
 use Rattle.c_tree.specs.Bare.{Program}
 use Rattle.c_tree.specs.Placed as placed
 use Rattle.c_tree.specs.Checked.{most_height}

@@ -9,7 +9,7 @@ use Rattle.c_tree.specs.NameRules.BreachSets.{HasNone, least}
 use Rattle.c_tree.specs.NameRules.Programs.{breaches}
 use Rattle.c_lexer.specs.Cut.{Cut, FirstFault}
 use Rattle.c_lexer.specs.declared.token.Token.{Token}
-use Rattle.pragma_grammar.specs.declared.phrase.ParseKind.TheVariants.{Syntax, Outside, TooDeep}
+use Rattle.pragma_grammar.specs.declared.phrase.ParseKind.TheVariants.{TooDeep}
 use Rattle.c_printer.specs.Programs.{printed}
 use Rattle.c_printer.specs.ReadsBack.{Reads}
 use Rattle.c_grammar.specs.Reading.{IsTree, IsTooDeep, Blame}
