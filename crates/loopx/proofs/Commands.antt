@@ -3,7 +3,7 @@ use Rattle.std.proofs.Common.{◌≡◌, ℕ, ◌<◌, ◌≤◌, ℤ, List, [],
 use Rattle.std.specs.Prelude.{string_bytes}
 use Rattle.std.specs.Str.Parse.{digits_value}
 use Rattle.translator.proofs.OneAnswer.{accepted_or_refused}
-use Rattle.loopx.specs.Answer.{greatest_length, purpose_of, FitsText, IsComplete}
+use Rattle.loopx.specs.Answer.{greatest_length, FitsText, IsComplete}
 use Rattle.loopx.specs.Commands.{AsksFor}
 use Rattle.loopx.specs.Words.{IsBound, Command, translate, run, Asks, AllNumbers, AreNumbers, AskForNothing}
 use Rattle.loopx.specs.declared.command.Command as code
@@ -29,10 +29,10 @@ record Faultless (status : Status) : Type 0 where
   write : status ≡ WriteFault → ⊥
 
 complete : (command : Command) (status : Status) (text : List ℕ) → FitsText command status text → Faultless status → IsComplete command status text
-complete command Done text fits faultless short = (λ accepted. inl (inl refl), λ refused. absurd (accepted_or_refused (purpose_of command) text fits.1 refused.0 refused.1 refused.2))
-complete command Trapped text fits faultless short = (λ accepted. inl (inr (inl refl)), λ refused. absurd (accepted_or_refused (purpose_of command) text fits.1 refused.0 refused.1 refused.2))
-complete command Cut text fits faultless short = (λ accepted. inl (inr (inr refl)), λ refused. absurd (accepted_or_refused (purpose_of command) text fits.1 refused.0 refused.1 refused.2))
-complete command Refused text fits faultless short = (λ accepted. absurd (accepted_or_refused (purpose_of command) text accepted fits.1.0 fits.1.1 fits.1.2), λ refused. inl refl)
+complete command Done text fits faultless short = (λ accepted. inl (inl refl), λ refused. absurd (accepted_or_refused text fits.1 refused.0 refused.1 refused.2))
+complete command Trapped text fits faultless short = (λ accepted. inl (inr (inl refl)), λ refused. absurd (accepted_or_refused text fits.1 refused.0 refused.1 refused.2))
+complete command Cut text fits faultless short = (λ accepted. inl (inr (inr refl)), λ refused. absurd (accepted_or_refused text fits.1 refused.0 refused.1 refused.2))
+complete command Refused text fits faultless short = (λ accepted. absurd (accepted_or_refused text accepted fits.1.0 fits.1.1 fits.1.2), λ refused. inl refl)
 complete command Memory text fits faultless short = (λ accepted. inr refl, λ refused. inr refl)
 complete command TooLong text fits faultless short = absurd (omega (arith, fits, short))
 complete command Usage text fits faultless short = absurd (faultless.usage refl)

@@ -8,9 +8,9 @@ use Rattle.c_meaning.specs.Ends.{finish_of}
 use Rattle.c_meaning.specs.declared.run.RunEnd.{RunEnd}
 use Rattle.c_meaning.specs.declared.run.RunEnd.TheVariants as ended
 use Rattle.c_meaning.specs.Running.{lines_text}
-use Rattle.translator.specs.Answers.{Purpose, running, IsAccepted, IsRefused, IsTranslatedTree}
+use Rattle.translator.specs.Answers.{IsAccepted, IsRefused, IsTranslatedTree}
 use Rattle.translator.specs.declared.refusal.Refusal.{Refusal}
-use Rattle.loopx.specs.Answer.{greatest_length, purpose_of, IsLine, GainsPart, GainsLine, GainsPartOfLine}
+use Rattle.loopx.specs.Answer.{greatest_length, IsLine, GainsPart, GainsLine, GainsPartOfLine}
 use Rattle.loopx.specs.Lines.{trap_line}
 use Rattle.loopx.specs.Told.{told_status, told_line, FitsRefusal, FitsTold, IsOfSource}
 use Rattle.loopx.specs.Words.{Command, run}
@@ -19,18 +19,18 @@ use Rattle.loopx.specs.declared.status.Status.TheVariants as status
 use Rattle.loopx.specs.declared.told.Told.{Told}
 use Rattle.loopx.specs.declared.told.Told.TheVariants.{Refused, Usage, ReadFault, TooLong, Memory, Trapped, Cut}
 
-fits : (purpose : Purpose) (told : Told) (text : List ℕ) (refusal : Refusal) → length text ≤ greatest_length → FitsRefusal told text refusal → IsRefused purpose refusal text → FitsTold purpose told text
-fits purpose (Refused line) text refusal short told refused = (short, (refusal, told.0, refused, told.1))
-fits purpose Memory text refusal short told refused = tt
-fits purpose _ text refusal short told refused = absurd told
+fits : (told : Told) (text : List ℕ) (refusal : Refusal) → length text ≤ greatest_length → FitsRefusal told text refusal → IsRefused refusal text → FitsTold told text
+fits (Refused line) text refusal short told refused = (short, (refusal, told.0, refused, told.1))
+fits Memory text refusal short told refused = tt
+fits _ text refusal short told refused = absurd told
 
 -- the refusal of the bytes that were read is one of the text that was left
-pub told_of_refusal : (purpose : Purpose) (left : Option (List ℕ)) (bytes : List ℕ) (told : Told) (refusal : Refusal) → length bytes ≤ greatest_length → IfSome left (λ text. bytes ≡ text) →
-    FitsRefusal told bytes refusal → IsRefused purpose refusal bytes → IfSome left (FitsTold purpose told)
-told_of_refusal purpose None bytes told refusal short same fit refused = tt
-told_of_refusal purpose (Some text) bytes told refusal short same fit refused = subst (FitsTold purpose told) same (fits purpose told bytes refusal short fit refused)
+pub told_of_refusal : (left : Option (List ℕ)) (bytes : List ℕ) (told : Told) (refusal : Refusal) → length bytes ≤ greatest_length → IfSome left (λ text. bytes ≡ text) →
+    FitsRefusal told bytes refusal → IsRefused refusal bytes → IfSome left (FitsTold told)
+told_of_refusal None bytes told refusal short same fit refused = tt
+told_of_refusal (Some text) bytes told refusal short same fit refused = subst (FitsTold told) same (fits told bytes refusal short fit refused)
 
-line_told : (command : Command) (told : Told) (text : List ℕ) → IsOfSource told → FitsTold (purpose_of command) told text → IsLine command (told_status told) text (told_line told)
+line_told : (command : Command) (told : Told) (text : List ℕ) → IsOfSource told → FitsTold told text → IsLine command (told_status told) text (told_line told)
 line_told command (Refused line) text of fit = fit.1
 line_told command ReadFault text of fit = refl
 line_told command TooLong text of fit = refl
@@ -39,7 +39,7 @@ line_told command Usage text of fit = absurd of
 line_told command (Trapped trap) text of fit = absurd of
 line_told command Cut text of fit = absurd of
 
-pub part_told : (command : Command) (left old new : Option (List ℕ)) (told : Told) → IsOfSource told → IfSome left (FitsTold (purpose_of command) told) → GainsPrefix old new (told_line told) → IfSome left (GainsPartOfLine command old new)
+pub part_told : (command : Command) (left old new : Option (List ℕ)) (told : Told) → IsOfSource told → IfSome left (FitsTold told) → GainsPrefix old new (told_line told) → IfSome left (GainsPartOfLine command old new)
 part_told command None old new told of fit part = tt
 part_told command (Some text) old new told of fit part = (told_status told, told_line told, line_told command told text of fit, part)
 
@@ -54,7 +54,7 @@ gains_nothing (Some bytes) = sym (append-nil bytes)
 -- ---- after a run of the translated program
 
 -- a first part of its lines is a first part of what the command asks for
-pub part_run : (bound : ℕ) (input : List ℤ) (left old new : Option (List ℕ)) (result : Program) → IfSome left (λ text. (length text ≤ greatest_length) × IsAccepted running text × IsTranslatedTree text result) →
+pub part_run : (bound : ℕ) (input : List ℤ) (left old new : Option (List ℕ)) (result : Program) → IfSome left (λ text. (length text ≤ greatest_length) × IsAccepted text × IsTranslatedTree text result) →
     GainsPrefix old new (lines_text (outcome bound result input).lines) → IfSome left (GainsPart (run bound input) old new)
 part_run bound input None old new result tree part = tt
 part_run bound input (Some text) old new result tree part = inr (lines_text (outcome bound result input).lines, (result, tree.2, refl), part)
@@ -63,19 +63,19 @@ whole_part : (old new : Option (List ℕ)) (bytes : List ℕ) → Gains old new 
 whole_part old new bytes gains = (bytes, ([], sym (append-nil bytes)), gains)
 
 -- so are they all
-pub whole_run : (bound : ℕ) (input : List ℤ) (left old new : Option (List ℕ)) (result : Program) → IfSome left (λ text. (length text ≤ greatest_length) × IsAccepted running text × IsTranslatedTree text result) →
+pub whole_run : (bound : ℕ) (input : List ℤ) (left old new : Option (List ℕ)) (result : Program) → IfSome left (λ text. (length text ≤ greatest_length) × IsAccepted text × IsTranslatedTree text result) →
     Gains old new (lines_text (outcome bound result input).lines) → IfSome left (GainsPart (run bound input) old new)
 whole_run bound input left old new result tree gains = part_run bound input left old new result tree (whole_part old new _ gains)
 
 stopped_by : (trap : Trap) (e : RunEnd) (f : Finish) → e ≡ ended.Trapped trap → finish_of e ≡ f → Stopped trap ≡ f
 stopped_by trap e f trapped end = subst (λ x. finish_of x ≡ f) trapped end
 
-pub trap_told : (bound : ℕ) (input : List ℤ) (left old new : Option (List ℕ)) (result : Program) (trap : Trap) (e : RunEnd) (s : Status) → IfSome left (λ text. (length text ≤ greatest_length) × IsAccepted running text × IsTranslatedTree text result) →
+pub trap_told : (bound : ℕ) (input : List ℤ) (left old new : Option (List ℕ)) (result : Program) (trap : Trap) (e : RunEnd) (s : Status) → IfSome left (λ text. (length text ≤ greatest_length) × IsAccepted text × IsTranslatedTree text result) →
     e ≡ ended.Trapped trap → finish_of e ≡ (outcome bound result input).end → s ≡ status.Trapped → Gains old new (trap_line trap) → IfSome left (GainsLine (run bound input) s old new)
 trap_told bound input None old new result trap e s tree trapped end is gains = tt
 trap_told bound input (Some text) old new result trap e s tree trapped end is gains = rw is (trap_line trap, (trap, (result, tree.2, sym (stopped_by trap e _ trapped end)), refl), gains)
 
-pub trap_part : (bound : ℕ) (input : List ℤ) (left old new : Option (List ℕ)) (result : Program) (trap : Trap) (e : RunEnd) → IfSome left (λ text. (length text ≤ greatest_length) × IsAccepted running text × IsTranslatedTree text result) →
+pub trap_part : (bound : ℕ) (input : List ℤ) (left old new : Option (List ℕ)) (result : Program) (trap : Trap) (e : RunEnd) → IfSome left (λ text. (length text ≤ greatest_length) × IsAccepted text × IsTranslatedTree text result) →
     e ≡ ended.Trapped trap → finish_of e ≡ (outcome bound result input).end → GainsPrefix old new (trap_line trap) → IfSome left (GainsPartOfLine (run bound input) old new)
 trap_part bound input None old new result trap e tree trapped end part = tt
 trap_part bound input (Some text) old new result trap e tree trapped end part = (status.Trapped, trap_line trap, (trap, (result, tree.2, sym (stopped_by trap e _ trapped end)), refl), part)

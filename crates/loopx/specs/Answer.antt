@@ -5,7 +5,7 @@ use Rattle.c_tree.specs.Bare.{Program}
 use Rattle.c_tree.specs.declared.arithmetic.Trap.{Trap}
 use Rattle.c_semantics.specs.Meaning.Programs.{Finish, Ended, Stopped, CutOff, outcome}
 use Rattle.c_meaning.specs.Running.{lines_text}
-use Rattle.translator.specs.Answers.{Purpose, translation, running, IsAccepted, IsCause, IsRefused, IsWritten, IsTranslatedTree}
+use Rattle.translator.specs.Answers.{IsAccepted, IsCause, IsRefused, IsTranslation, IsTranslatedTree}
 use Rattle.translator.specs.declared.refusal.Refusal.{Refusal}
 use Rattle.loopx.specs.Lines.{refusal_line, trap_line}
 use Rattle.loopx.specs.Words.{Command, translate, run}
@@ -16,15 +16,10 @@ use Rattle.loopx.specs.declared.status.Status.TheVariants.{Done, Refused, Usage,
 abbrev pub greatest_length : ℕ
 greatest_length = 2 ^ 24
 
--- what the text is read for
-abbrev pub purpose_of : Command → Purpose
-purpose_of translate = translation
-purpose_of (run bound input) = running
-
 -- ---- what an answer says of the text
 
-abbrev pub IsRefusedText : Purpose → List ℕ → Type 0
-IsRefusedText purpose text = (refusal : Refusal) × IsCause refusal × IsRefused purpose refusal text
+abbrev pub IsRefusedText : List ℕ → Type 0
+IsRefusedText text = (refusal : Refusal) × IsCause refusal × IsRefused refusal text
 
 -- the translated program's run with this bound and input ends so
 abbrev pub RunEnds : ℕ → List ℤ → List ℕ → Finish → Type 0
@@ -40,10 +35,10 @@ Finishes _ _ text = ⊥
 
 -- exactly one of the answers by the text fits a text; the others have other causes
 abbrev pub FitsText : Command → Status → List ℕ → Type 0
-FitsText command Done text = (length text ≤ greatest_length) × IsAccepted (purpose_of command) text × Finishes command Done text
-FitsText command Trapped text = (length text ≤ greatest_length) × IsAccepted (purpose_of command) text × Finishes command Trapped text
-FitsText command Cut text = (length text ≤ greatest_length) × IsAccepted (purpose_of command) text × Finishes command Cut text
-FitsText command Refused text = (length text ≤ greatest_length) × IsRefusedText (purpose_of command) text
+FitsText command Done text = (length text ≤ greatest_length) × IsAccepted text × Finishes command Done text
+FitsText command Trapped text = (length text ≤ greatest_length) × IsAccepted text × Finishes command Trapped text
+FitsText command Cut text = (length text ≤ greatest_length) × IsAccepted text × Finishes command Cut text
+FitsText command Refused text = (length text ≤ greatest_length) × IsRefusedText text
 FitsText command TooLong text = greatest_length < length text
 FitsText command _ text = ⊤
 
@@ -55,14 +50,14 @@ IsFinished status = (status ≡ Done) ⊎ (status ≡ Trapped) ⊎ (status ≡ C
 -- is no memory
 abbrev pub IsComplete : Command → Status → List ℕ → Type 0
 IsComplete command status text = length text ≤ greatest_length →
-    (IsAccepted (purpose_of command) text → IsFinished status ⊎ (status ≡ Memory))
-    × (IsRefusedText (purpose_of command) text → (status ≡ Refused) ⊎ (status ≡ Memory))
+    (IsAccepted text → IsFinished status ⊎ (status ≡ Memory))
+    × (IsRefusedText text → (status ≡ Refused) ⊎ (status ≡ Memory))
 
 -- ---- what is written
 
 -- the bytes are what the command asks of the text
 abbrev pub IsOutput : Command → List ℕ → List ℕ → Type 0
-IsOutput translate text bytes = IsWritten text bytes
+IsOutput translate text bytes = IsTranslation text bytes
 IsOutput (run bound input) text bytes = (result : Program) × IsTranslatedTree text result × (bytes ≡ lines_text (outcome bound result input).lines)
 
 -- what is held grew by that
@@ -76,8 +71,8 @@ GainsPart command old new text = (old ≡ new) ⊎ ((bytes : List ℕ) × IsOutp
 -- ---- what is told
 
 -- the text is refused, and this line says why
-abbrev pub IsRefusedBy : Purpose → List ℕ → List ℕ → Type 0
-IsRefusedBy purpose text line = (refusal : Refusal) × IsCause refusal × IsRefused purpose refusal text × (line ≡ refusal_line text refusal)
+abbrev pub IsRefusedBy : List ℕ → List ℕ → Type 0
+IsRefusedBy text line = (refusal : Refusal) × IsCause refusal × IsRefused refusal text × (line ≡ refusal_line text refusal)
 
 -- the run is trapped, and this line says by what
 abbrev pub IsTrappedBy : Command → List ℕ → List ℕ → Type 0
@@ -86,7 +81,7 @@ IsTrappedBy (run bound input) text line = (trap : Trap) × RunEnds bound input t
 
 -- the line that tells an answer for the text
 abbrev pub IsLine : Command → Status → List ℕ → List ℕ → Type 0
-IsLine command Refused text line = IsRefusedBy (purpose_of command) text line
+IsLine command Refused text line = IsRefusedBy text line
 IsLine command Trapped text line = IsTrappedBy command text line
 IsLine command Cut text line = line ≡ codes "cut\n"
 IsLine command ReadFault text line = line ≡ codes "read failed\n"

@@ -5,7 +5,7 @@ use Rattle.c_semantics.specs.Meaning.Programs.{Stopped, CutOff}
 use Rattle.outside_io.specs.declared.reading.ReadEnd.{ReadEnd}
 use Rattle.outside_io.specs.declared.reading.ReadEnd.TheVariants as end
 use Rattle.translator.specs.declared.refusal.Refusal.{Refusal}
-use Rattle.translator.specs.Answers.{Purpose, IsCause}
+use Rattle.translator.specs.Answers.{IsCause}
 use Rattle.loopx.specs.Answer.{greatest_length, usage_line, IsRefusedBy}
 use Rattle.loopx.specs.Lines.{refusal_line, trap_line}
 use Rattle.loopx.specs.declared.status.Status.{Status}
@@ -49,10 +49,10 @@ FitsEnd end.TooLong text = greatest_length < length text
 FitsEnd _ text = ⊤
 
 -- what is told before the command's own part, and what that says of the text
-abbrev pub FitsTold : Purpose → Told → List ℕ → Type 0
-FitsTold purpose (Refused line) text = (length text ≤ greatest_length) × IsRefusedBy purpose text line.items
-FitsTold purpose TooLong text = greatest_length < length text
-FitsTold purpose _ text = ⊤
+abbrev pub FitsTold : Told → List ℕ → Type 0
+FitsTold (Refused line) text = (length text ≤ greatest_length) × IsRefusedBy text line.items
+FitsTold TooLong text = greatest_length < length text
+FitsTold _ text = ⊤
 
 abbrev pub IsOfSource : Told → Type 0
 IsOfSource (Refused line) = ⊤

@@ -8,7 +8,7 @@ ghost use Rattle.c_meaning.specs.Plain.{is_plain};
 ghost use Rattle.c_meaning.specs.Running.{lines_text};
 ghost use Rattle.outside_io.specs.Bytes.{Gains, GainsPrefix, TakesAll};
 ghost use Rattle.outside_io.specs.Faults.{Rose};
-ghost use Rattle.translator.specs.Answers.{running, IsAccepted, IsTranslatedTree};
+ghost use Rattle.translator.specs.Answers.{IsAccepted, IsTranslatedTree};
 ghost use Rattle.loopx.specs.Answer.{greatest_length, IsFinished, FitsText, GainsOutput, GainsPart, GainsLine, GainsPartOfLine};
 ghost use Rattle.loopx.specs.Told.{told_status, FitsTold, IsOfSource};
 ghost use Rattle.loopx.specs.Words.{run, AllNumbers, AreNumbers};
@@ -29,8 +29,8 @@ use translator::tree::cut_tree;
 fn program<S: Source>(alloc: Global, source: &mut S) -> Result<Checked, Told>
     ensures plain { IfOk result (λ checked. is_plain (bare_program checked) ≡ true) }
     ensures tree { IfOk result (λ checked. IfSome (S.left source.old) (λ text.
-        (length text ≤ greatest_length) × IsAccepted running text × IsTranslatedTree text (bare_program checked))) }
-    ensures told { IfErr result (λ told. IfSome (S.left source.old) (FitsTold running told)) }
+        (length text ≤ greatest_length) × IsAccepted text × IsTranslatedTree text (bare_program checked))) }
+    ensures told { IfErr result (λ told. IfSome (S.left source.old) (FitsTold told)) }
     ensures of_source { IfErr result IsOfSource }
     ensures read_fault { IfErr result (λ told. told_status told ≡ Status.ReadFault → Rose (S.faults source.old) (S.faults source.new)) }
     ensures whole { OnOk result (TakesAll (S.left source.old) (S.left source.new)) }

@@ -3,7 +3,7 @@
 ghost use Rattle.std.specs.Prelude.{◌≡◌, ◌≢◌, ◌⊎◌, ◌≤◌, ℕ, List, length, IfSome, IfOk, IfErr, OnOk};
 ghost use Rattle.outside_io.specs.Bytes.{TakesAll};
 ghost use Rattle.outside_io.specs.Faults.{Rose};
-ghost use Rattle.translator.specs.Answers.{translation, IsAccepted, IsWritten};
+ghost use Rattle.translator.specs.Answers.{IsAccepted, IsTranslation};
 ghost use Rattle.loopx.specs.Answer.{greatest_length, FitsText, GainsOutput, GainsPart, GainsLine, GainsPartOfLine};
 ghost use Rattle.loopx.specs.Told.{told_status, FitsTold, IsOfSource};
 ghost use Rattle.loopx.specs.Words.{translate};
@@ -19,8 +19,8 @@ use translator::translate::translate_cut;
 /// The translation of the text that the source has left, or what is told in its place.
 fn translated<S: Source>(alloc: Global, source: &mut S) -> Result<Vec<u8>, Told>
     ensures written { IfOk result (λ written. IfSome (S.left source.old) (λ text.
-        (length text ≤ greatest_length) × IsAccepted translation text × IsWritten text written.items)) }
-    ensures told { IfErr result (λ told. IfSome (S.left source.old) (FitsTold translation told)) }
+        (length text ≤ greatest_length) × IsAccepted text × IsTranslation text written.items)) }
+    ensures told { IfErr result (λ told. IfSome (S.left source.old) (FitsTold told)) }
     ensures of_source { IfErr result IsOfSource }
     ensures read_fault { IfErr result (λ told. told_status told ≡ Status.ReadFault → Rose (S.faults source.old) (S.faults source.new)) }
     ensures whole { OnOk result (TakesAll (S.left source.old) (S.left source.new)) }

@@ -1,53 +1,43 @@
 -- A text has one answer: it is accepted, or refused in one way; only want of memory may stand in its place.
-use Rattle.std.proofs.Common.{◌≡◌, ℕ, List, Option, Some, None, refl, sym, subst, ◌∙◌, inl, inr, ap}
+use Rattle.std.proofs.Common.{◌≡◌, ℕ, List, Option, Some, None, refl, sym, subst, ◌∙◌, ap}
 use Rattle.c_tree.specs.Placed as placed
-use Rattle.c_tree.specs.NameRules.BreachSets.{BreachSet, none, one, ◌&◌, HasNone, lesser, least}
+use Rattle.c_tree.specs.NameRules.BreachSets.{least}
 use Rattle.c_tree.specs.NameRules.Programs.{breaches}
 use Rattle.c_tree.specs.declared.name_rule.Breach.{Breach}
 use Rattle.c_tree.specs.declared.name_rule.NameRule.{NameRule}
-use Rattle.c_lexer.specs.Cut.{Cut, FirstFault}
 use Rattle.c_lexer.specs.declared.token.Token.{Token}
-use Rattle.c_lexer.specs.declared.token.LexKind.{LexKind}
 use Rattle.c_lexer.proofs.Standing.{cut_once, fault_once, not_both}
 use Rattle.pragma_grammar.specs.declared.phrase.ParseKind.{ParseKind}
 use Rattle.pragma_grammar.specs.declared.phrase.ParseKind.TheVariants.{Syntax, Outside, TooDeep}
-use Rattle.c_grammar.specs.Programs.{Spells}
 use Rattle.c_grammar.specs.Reading.{IsTree, IsTooDeep, Blame}
 use Rattle.c_grammar.proofs.OneProgram.{one_program}
 use Rattle.c_grammar.proofs.OneAnswer.{one_blame, one_deep, tree_or_blame, tree_or_deep, deep_or_blame}
 use Rattle.canonical_nests.specs.LoopRules.Programs.{first_directive}
-use Rattle.translator.specs.Answers.{Purpose, SpellsChecked, IsBuilt, TokensRefused, IsRefused, IsAccepted, IsCause}
+use Rattle.translator.proofs.Breaches.{unbroken}
+use Rattle.translator.specs.Answers.{SpellsChecked, IsBuilt, TokensRefused, IsRefused, IsAccepted, IsCause}
 use Rattle.translator.specs.declared.refusal.Refusal.{Refusal}
 use Rattle.translator.specs.declared.refusal.Refusal.TheVariants.{Lex, Parse, Names, NotBuilt, Memory}
-
-least_of_none : (s : BreachSet) → HasNone s → least s ≡ None
-least_of_none none h = refl
-least_of_none (one b) h = absurd h
-least_of_none (x & y) h = rw (least_of_none x h.0, least_of_none y h.1) refl
-
-unbroken : (s : BreachSet) (b : Breach) → HasNone s → least s ≡ Some b → ⊥
-unbroken s b h e = let n = least_of_none s h in cc
 
 one_tree : (tokens : List Token) (p q : placed.Program) → IsTree tokens p → IsTree tokens q → p ≡ q
 one_tree tokens p q h k = one_program p q tokens (record { items = h.0; spelled = h.1; same = sym h.2 }) (record { items = k.0; spelled = k.1; same = sym k.2 })
 
 -- ---- accepted tokens are not refused
 
-accepted_tokens : (B : Purpose) (tokens : List Token) (p : placed.Program) → SpellsChecked tokens p → IsBuilt B p → (r : Refusal) → IsCause r → TokensRefused B r tokens → ⊥
-accepted_tokens B tokens p s b (Lex kind place) c h = h
-accepted_tokens B tokens p s b (Parse TooDeep place) c h = tree_or_deep tokens p place s.tree h
-accepted_tokens B tokens p s b (Parse Syntax place) c h = tree_or_blame tokens p Syntax place s.tree h
-accepted_tokens B tokens p s b (Parse Outside place) c h = tree_or_blame tokens p Outside place s.tree h
-accepted_tokens B tokens p s b (Names rule place) c h = unbroken (breaches p) (record { place = place; rule = rule }) s.names (subst (λ q. least (breaches q) ≡ Some (record { place = place; rule = rule })) (one_tree tokens h.0 p h.1 s.tree) h.2)
-accepted_tokens B tokens p s b (NotBuilt place) c h = h.2.1 (subst (IsBuilt B) (one_tree tokens p h.0 s.tree h.1.tree) b)
-accepted_tokens B tokens p s b Memory c h = c
+accepted_tokens : (tokens : List Token) (p : placed.Program) → SpellsChecked tokens p → IsBuilt p → (r : Refusal) → IsCause r → TokensRefused r tokens → ⊥
+accepted_tokens tokens p s b (Lex kind place) c h = h
+accepted_tokens tokens p s b (Parse TooDeep place) c h = tree_or_deep tokens p place s.tree h
+accepted_tokens tokens p s b (Parse Syntax place) c h = tree_or_blame tokens p Syntax place s.tree h
+accepted_tokens tokens p s b (Parse Outside place) c h = tree_or_blame tokens p Outside place s.tree h
+accepted_tokens tokens p s b (Names rule place) c h = unbroken (breaches p) (record { place = place; rule = rule }) s.names (subst (λ q. least (breaches q) ≡ Some (record { place = place; rule = rule })) (one_tree tokens h.0 p h.1 s.tree) h.2)
+accepted_tokens tokens p s b (NotBuilt place) c h = h.2.1 (subst IsBuilt (one_tree tokens p h.0 s.tree h.1.tree) b)
+accepted_tokens tokens p s b Memory c h = c
 
-pub accepted_or_refused : (B : Purpose) (text : List ℕ) → IsAccepted B text → (r : Refusal) → IsCause r → IsRefused B r text → ⊥
-accepted_or_refused B text a (Lex kind place) c h = not_both text a.0 kind place a.2 h
-accepted_or_refused B text a (Parse kind place) c h = accepted_tokens B a.0 a.1 a.3 a.4 (Parse kind place) c (subst (TokensRefused B (Parse kind place)) (cut_once text h.0 a.0 h.1 a.2) h.2)
-accepted_or_refused B text a (Names rule place) c h = accepted_tokens B a.0 a.1 a.3 a.4 (Names rule place) c (subst (TokensRefused B (Names rule place)) (cut_once text h.0 a.0 h.1 a.2) h.2)
-accepted_or_refused B text a (NotBuilt place) c h = accepted_tokens B a.0 a.1 a.3 a.4 (NotBuilt place) c (subst (TokensRefused B (NotBuilt place)) (cut_once text h.0 a.0 h.1 a.2) h.2)
-accepted_or_refused B text a Memory c h = c
+pub accepted_or_refused : (text : List ℕ) → IsAccepted text → (r : Refusal) → IsCause r → IsRefused r text → ⊥
+accepted_or_refused text a (Lex kind place) c h = not_both text a.0 kind place a.2 h
+accepted_or_refused text a (Parse kind place) c h = accepted_tokens a.0 a.1 a.3 a.4 (Parse kind place) c (subst (TokensRefused (Parse kind place)) (cut_once text h.0 a.0 h.1 a.2) h.2)
+accepted_or_refused text a (Names rule place) c h = accepted_tokens a.0 a.1 a.3 a.4 (Names rule place) c (subst (TokensRefused (Names rule place)) (cut_once text h.0 a.0 h.1 a.2) h.2)
+accepted_or_refused text a (NotBuilt place) c h = accepted_tokens a.0 a.1 a.3 a.4 (NotBuilt place) c (subst (TokensRefused (NotBuilt place)) (cut_once text h.0 a.0 h.1 a.2) h.2)
+accepted_or_refused text a Memory c h = c
 
 -- ---- tokens are refused in one way
 
@@ -57,22 +47,22 @@ deep_apart tokens place kind other h k = deep_or_blame tokens kind other place h
 same_parse : (kind kind' : ParseKind) (place place' : ℕ) → (kind ≡ kind') × (place ≡ place') → Parse kind place ≡ Parse kind' place'
 same_parse kind kind' place place' h = rw (h.0, h.1) refl
 
-parse_once : (B : Purpose) (tokens : List Token) (k l : ParseKind) (m n : ℕ) → TokensRefused B (Parse k m) tokens → TokensRefused B (Parse l n) tokens → Parse k m ≡ Parse l n
-parse_once B tokens TooDeep TooDeep m n h i = ap (λ p. Parse TooDeep p) (one_deep tokens m n h i)
-parse_once B tokens TooDeep Syntax m n h i = absurd (deep_apart tokens m Syntax n h i)
-parse_once B tokens TooDeep Outside m n h i = absurd (deep_apart tokens m Outside n h i)
-parse_once B tokens Syntax TooDeep m n h i = absurd (deep_apart tokens n Syntax m i h)
-parse_once B tokens Outside TooDeep m n h i = absurd (deep_apart tokens n Outside m i h)
-parse_once B tokens Syntax Syntax m n h i = same_parse Syntax Syntax m n (one_blame tokens Syntax Syntax m n h i)
-parse_once B tokens Syntax Outside m n h i = same_parse Syntax Outside m n (one_blame tokens Syntax Outside m n h i)
-parse_once B tokens Outside Syntax m n h i = same_parse Outside Syntax m n (one_blame tokens Outside Syntax m n h i)
-parse_once B tokens Outside Outside m n h i = same_parse Outside Outside m n (one_blame tokens Outside Outside m n h i)
+parse_once : (tokens : List Token) (k l : ParseKind) (m n : ℕ) → TokensRefused (Parse k m) tokens → TokensRefused (Parse l n) tokens → Parse k m ≡ Parse l n
+parse_once tokens TooDeep TooDeep m n h i = ap (λ p. Parse TooDeep p) (one_deep tokens m n h i)
+parse_once tokens TooDeep Syntax m n h i = absurd (deep_apart tokens m Syntax n h i)
+parse_once tokens TooDeep Outside m n h i = absurd (deep_apart tokens m Outside n h i)
+parse_once tokens Syntax TooDeep m n h i = absurd (deep_apart tokens n Syntax m i h)
+parse_once tokens Outside TooDeep m n h i = absurd (deep_apart tokens n Outside m i h)
+parse_once tokens Syntax Syntax m n h i = same_parse Syntax Syntax m n (one_blame tokens Syntax Syntax m n h i)
+parse_once tokens Syntax Outside m n h i = same_parse Syntax Outside m n (one_blame tokens Syntax Outside m n h i)
+parse_once tokens Outside Syntax m n h i = same_parse Outside Syntax m n (one_blame tokens Outside Syntax m n h i)
+parse_once tokens Outside Outside m n h i = same_parse Outside Outside m n (one_blame tokens Outside Outside m n h i)
 
 -- a tree and a refusal of the parser exclude each other
-parse_apart : (B : Purpose) (tokens : List Token) (p : placed.Program) (k : ParseKind) (m : ℕ) → IsTree tokens p → TokensRefused B (Parse k m) tokens → ⊥
-parse_apart B tokens p TooDeep m t h = tree_or_deep tokens p m t h
-parse_apart B tokens p Syntax m t h = tree_or_blame tokens p Syntax m t h
-parse_apart B tokens p Outside m t h = tree_or_blame tokens p Outside m t h
+parse_apart : (tokens : List Token) (p : placed.Program) (k : ParseKind) (m : ℕ) → IsTree tokens p → TokensRefused (Parse k m) tokens → ⊥
+parse_apart tokens p TooDeep m t h = tree_or_deep tokens p m t h
+parse_apart tokens p Syntax m t h = tree_or_blame tokens p Syntax m t h
+parse_apart tokens p Outside m t h = tree_or_blame tokens p Outside m t h
 
 names_apart : (tokens : List Token) (p q : placed.Program) (b : Breach) → IsTree tokens p → least (breaches p) ≡ Some b → SpellsChecked tokens q → ⊥
 names_apart tokens p q b t h s = unbroken (breaches q) b s.names (subst (λ z. least (breaches z) ≡ Some b) (one_tree tokens p q t s.tree) h)
@@ -88,43 +78,43 @@ names_once rule rule' place place' o h k =
     let same : Some (record { place = place; rule = rule }) ≡ Some (record { place = place'; rule = rule' }) = sym h ∙ k in
     ap named same
 
-pub refused_once : (B : Purpose) (tokens : List Token) (r s : Refusal) → IsCause r → IsCause s → TokensRefused B r tokens → TokensRefused B s tokens → r ≡ s
-refused_once B tokens (Lex kind place) s c d h i = absurd h
-refused_once B tokens r (Lex kind place) c d h i = absurd i
-refused_once B tokens Memory s c d h i = absurd c
-refused_once B tokens r Memory c d h i = absurd d
-refused_once B tokens (Parse k m) (Parse l n) c d h i = parse_once B tokens k l m n h i
-refused_once B tokens (Parse k m) (Names rule place) c d h i = absurd (parse_apart B tokens i.0 k m i.1 h)
-refused_once B tokens (Parse k m) (NotBuilt place) c d h i = absurd (parse_apart B tokens i.0 k m i.1.tree h)
-refused_once B tokens (Names rule place) (Parse k m) c d h i = absurd (parse_apart B tokens h.0 k m h.1 i)
-refused_once B tokens (NotBuilt place) (Parse k m) c d h i = absurd (parse_apart B tokens h.0 k m h.1.tree i)
-refused_once B tokens (Names rule place) (Names rule' place') c d h i = names_once rule rule' place place' (least (breaches h.0)) h.2 (subst (λ p. least (breaches p) ≡ Some (record { place = place'; rule = rule' })) (one_tree tokens i.0 h.0 i.1 h.1) i.2)
-refused_once B tokens (Names rule place) (NotBuilt place') c d h i = absurd (names_apart tokens h.0 i.0 (record { place = place; rule = rule }) h.1 h.2 i.1)
-refused_once B tokens (NotBuilt place) (Names rule place') c d h i = absurd (names_apart tokens i.0 h.0 (record { place = place'; rule = rule }) i.1 i.2 h.1)
-refused_once B tokens (NotBuilt place) (NotBuilt place') c d h i =
+pub refused_once : (tokens : List Token) (r s : Refusal) → IsCause r → IsCause s → TokensRefused r tokens → TokensRefused s tokens → r ≡ s
+refused_once tokens (Lex kind place) s c d h i = absurd h
+refused_once tokens r (Lex kind place) c d h i = absurd i
+refused_once tokens Memory s c d h i = absurd c
+refused_once tokens r Memory c d h i = absurd d
+refused_once tokens (Parse k m) (Parse l n) c d h i = parse_once tokens k l m n h i
+refused_once tokens (Parse k m) (Names rule place) c d h i = absurd (parse_apart tokens i.0 k m i.1 h)
+refused_once tokens (Parse k m) (NotBuilt place) c d h i = absurd (parse_apart tokens i.0 k m i.1.tree h)
+refused_once tokens (Names rule place) (Parse k m) c d h i = absurd (parse_apart tokens h.0 k m h.1 i)
+refused_once tokens (NotBuilt place) (Parse k m) c d h i = absurd (parse_apart tokens h.0 k m h.1.tree i)
+refused_once tokens (Names rule place) (Names rule' place') c d h i = names_once rule rule' place place' (least (breaches h.0)) h.2 (subst (λ p. least (breaches p) ≡ Some (record { place = place'; rule = rule' })) (one_tree tokens i.0 h.0 i.1 h.1) i.2)
+refused_once tokens (Names rule place) (NotBuilt place') c d h i = absurd (names_apart tokens h.0 i.0 (record { place = place; rule = rule }) h.1 h.2 i.1)
+refused_once tokens (NotBuilt place) (Names rule place') c d h i = absurd (names_apart tokens i.0 h.0 (record { place = place'; rule = rule }) i.1 i.2 h.1)
+refused_once tokens (NotBuilt place) (NotBuilt place') c d h i =
     let e : first_directive h.0 ≡ Some place' = subst (λ p. first_directive p ≡ Some place') (one_tree tokens i.0 h.0 i.1.tree h.1.tree) i.2.0 in
     let f : Some place ≡ Some place' = sym h.2.0 ∙ e in
     cc
 
 -- ---- so are texts
 
-pub text_refused_once : (B : Purpose) (text : List ℕ) (r s : Refusal) → IsCause r → IsCause s → IsRefused B r text → IsRefused B s text → r ≡ s
-text_refused_once B text Memory s c d h i = absurd c
-text_refused_once B text r Memory c d h i = absurd d
-text_refused_once B text (Lex k m) (Lex l n) c d h i =
+pub text_refused_once : (text : List ℕ) (r s : Refusal) → IsCause r → IsCause s → IsRefused r text → IsRefused s text → r ≡ s
+text_refused_once text Memory s c d h i = absurd c
+text_refused_once text r Memory c d h i = absurd d
+text_refused_once text (Lex k m) (Lex l n) c d h i =
     let same = fault_once text k l m n h i in rw (same.0, same.1) refl
-text_refused_once B text (Lex k m) (Parse l n) c d h i = absurd (not_both text i.0 k m i.1 h)
-text_refused_once B text (Lex k m) (Names l n) c d h i = absurd (not_both text i.0 k m i.1 h)
-text_refused_once B text (Lex k m) (NotBuilt n) c d h i = absurd (not_both text i.0 k m i.1 h)
-text_refused_once B text (Parse l n) (Lex k m) c d h i = absurd (not_both text h.0 k m h.1 i)
-text_refused_once B text (Names l n) (Lex k m) c d h i = absurd (not_both text h.0 k m h.1 i)
-text_refused_once B text (NotBuilt n) (Lex k m) c d h i = absurd (not_both text h.0 k m h.1 i)
-text_refused_once B text (Parse k m) (Parse l n) c d h i = refused_once B h.0 (Parse k m) (Parse l n) c d h.2 (subst (TokensRefused B (Parse l n)) (cut_once text i.0 h.0 i.1 h.1) i.2)
-text_refused_once B text (Parse k m) (Names l n) c d h i = refused_once B h.0 (Parse k m) (Names l n) c d h.2 (subst (TokensRefused B (Names l n)) (cut_once text i.0 h.0 i.1 h.1) i.2)
-text_refused_once B text (Parse k m) (NotBuilt n) c d h i = refused_once B h.0 (Parse k m) (NotBuilt n) c d h.2 (subst (TokensRefused B (NotBuilt n)) (cut_once text i.0 h.0 i.1 h.1) i.2)
-text_refused_once B text (Names k m) (Parse l n) c d h i = refused_once B h.0 (Names k m) (Parse l n) c d h.2 (subst (TokensRefused B (Parse l n)) (cut_once text i.0 h.0 i.1 h.1) i.2)
-text_refused_once B text (Names k m) (Names l n) c d h i = refused_once B h.0 (Names k m) (Names l n) c d h.2 (subst (TokensRefused B (Names l n)) (cut_once text i.0 h.0 i.1 h.1) i.2)
-text_refused_once B text (Names k m) (NotBuilt n) c d h i = refused_once B h.0 (Names k m) (NotBuilt n) c d h.2 (subst (TokensRefused B (NotBuilt n)) (cut_once text i.0 h.0 i.1 h.1) i.2)
-text_refused_once B text (NotBuilt m) (Parse l n) c d h i = refused_once B h.0 (NotBuilt m) (Parse l n) c d h.2 (subst (TokensRefused B (Parse l n)) (cut_once text i.0 h.0 i.1 h.1) i.2)
-text_refused_once B text (NotBuilt m) (Names l n) c d h i = refused_once B h.0 (NotBuilt m) (Names l n) c d h.2 (subst (TokensRefused B (Names l n)) (cut_once text i.0 h.0 i.1 h.1) i.2)
-text_refused_once B text (NotBuilt m) (NotBuilt n) c d h i = refused_once B h.0 (NotBuilt m) (NotBuilt n) c d h.2 (subst (TokensRefused B (NotBuilt n)) (cut_once text i.0 h.0 i.1 h.1) i.2)
+text_refused_once text (Lex k m) (Parse l n) c d h i = absurd (not_both text i.0 k m i.1 h)
+text_refused_once text (Lex k m) (Names l n) c d h i = absurd (not_both text i.0 k m i.1 h)
+text_refused_once text (Lex k m) (NotBuilt n) c d h i = absurd (not_both text i.0 k m i.1 h)
+text_refused_once text (Parse l n) (Lex k m) c d h i = absurd (not_both text h.0 k m h.1 i)
+text_refused_once text (Names l n) (Lex k m) c d h i = absurd (not_both text h.0 k m h.1 i)
+text_refused_once text (NotBuilt n) (Lex k m) c d h i = absurd (not_both text h.0 k m h.1 i)
+text_refused_once text (Parse k m) (Parse l n) c d h i = refused_once h.0 (Parse k m) (Parse l n) c d h.2 (subst (TokensRefused (Parse l n)) (cut_once text i.0 h.0 i.1 h.1) i.2)
+text_refused_once text (Parse k m) (Names l n) c d h i = refused_once h.0 (Parse k m) (Names l n) c d h.2 (subst (TokensRefused (Names l n)) (cut_once text i.0 h.0 i.1 h.1) i.2)
+text_refused_once text (Parse k m) (NotBuilt n) c d h i = refused_once h.0 (Parse k m) (NotBuilt n) c d h.2 (subst (TokensRefused (NotBuilt n)) (cut_once text i.0 h.0 i.1 h.1) i.2)
+text_refused_once text (Names k m) (Parse l n) c d h i = refused_once h.0 (Names k m) (Parse l n) c d h.2 (subst (TokensRefused (Parse l n)) (cut_once text i.0 h.0 i.1 h.1) i.2)
+text_refused_once text (Names k m) (Names l n) c d h i = refused_once h.0 (Names k m) (Names l n) c d h.2 (subst (TokensRefused (Names l n)) (cut_once text i.0 h.0 i.1 h.1) i.2)
+text_refused_once text (Names k m) (NotBuilt n) c d h i = refused_once h.0 (Names k m) (NotBuilt n) c d h.2 (subst (TokensRefused (NotBuilt n)) (cut_once text i.0 h.0 i.1 h.1) i.2)
+text_refused_once text (NotBuilt m) (Parse l n) c d h i = refused_once h.0 (NotBuilt m) (Parse l n) c d h.2 (subst (TokensRefused (Parse l n)) (cut_once text i.0 h.0 i.1 h.1) i.2)
+text_refused_once text (NotBuilt m) (Names l n) c d h i = refused_once h.0 (NotBuilt m) (Names l n) c d h.2 (subst (TokensRefused (Names l n)) (cut_once text i.0 h.0 i.1 h.1) i.2)
+text_refused_once text (NotBuilt m) (NotBuilt n) c d h i = refused_once h.0 (NotBuilt m) (NotBuilt n) c d h.2 (subst (TokensRefused (NotBuilt n)) (cut_once text i.0 h.0 i.1 h.1) i.2)

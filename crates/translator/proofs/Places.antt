@@ -1,5 +1,5 @@
 -- A place past the text's end has the line and the column of the end.
-use Rattle.std.proofs.Common.{◌≡◌, ℕ, List, length, min, refl, ap, ◌∙◌, take}
+use Rattle.std.proofs.Common.{◌≡◌, ℕ, List, length, min, refl, ap, ◌∙◌}
 use Rattle.std.proofs.lemmas.List.{take_min}
 use Rattle.c_tree.specs.Place.{line_at, column_at}
 

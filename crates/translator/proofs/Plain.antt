@@ -1,10 +1,9 @@
 -- A program without a first directive holds none, where it is well formed; and one that holds none has no first one.
-use Rattle.std.proofs.Common.{◌≡◌, ℕ, Bool, true, false, ◌&&◌, List, [], ◌∷◌, Option, Some, None, map, refl}
-use Rattle.std.specs.Option.{option_map}
+use Rattle.std.proofs.Common.{◌≡◌, ℕ, Bool, true, false, ◌&&◌, [], ◌∷◌, Option, Some, None, refl}
 use Rattle.c_tree.specs.Bare as b
-use Rattle.c_tree.specs.Placed.{Stmt, decl, set, step, print, input, if_, if_else, while_, do_, for_, block, break_, continue_, empty, omp, call, Stmts, no_stmts, more_stmts, MaybeStmt, no_stmt, a_stmt, Head, head, directive, Top, define, extern_, global, function, main, Program}
+use Rattle.c_tree.specs.Placed.{Stmt, decl, set, step, print, input, if_, if_else, while_, do_, for_, block, break_, continue_, empty, omp, call, Stmts, no_stmts, more_stmts, head, directive, Top, define, extern_, global, function, main, Program}
 use Rattle.c_tree.specs.Forget.{forget_stmt, forget_stmts, forget_maybe, forget_head, forget_top, forget_program}
-use Rattle.c_tree.specs.WellFormed.{MayBegin, MayEnd, WellFormedStmt, WellFormedStmts, WellFormedHead, WellFormedTop, WellFormedTops}
+use Rattle.c_tree.specs.WellFormed.{MayBegin, MayEnd, WellFormedStmt, WellFormedStmts, WellFormedTop, WellFormedTops}
 use Rattle.canonical_nests.specs.LoopRules.Programs.{or_later, stmt_directive, stmts_directive, top_directive, first_directive}
 use Rattle.c_meaning.specs.Plain.{is_plain_stmt, are_plain_stmts, is_plain_part, is_plain_head, is_plain_top, is_plain}
 

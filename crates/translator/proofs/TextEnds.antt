@@ -1,7 +1,6 @@
 -- The tokens of a text end with End.
 use Rattle.std.proofs.Common.{ℕ, List, [], ◌∷◌, ◌++◌, refl}
 use Rattle.c_lexer.specs.Cut.{Side, Answer, tokens, fault, with_first, after, line_end, token, Lexes, ends, stops, goes, Cut}
-use Rattle.c_lexer.specs.declared.context.Line.{Line}
 use Rattle.c_lexer.specs.declared.context.Line.TheVariants.{Fresh, Begun, Directive}
 use Rattle.c_lexer.specs.declared.token.Token.{Token}
 use Rattle.c_lexer.specs.declared.token.TokenKind.TheVariants.{End}

@@ -1,5 +1,7 @@
 -- The answer for a text: why it is refused, which is the first that applies; or what it is translated to.
 use Rattle.std.specs.Prelude.{◌≡◌, ℕ, ◌≤◌, ℤ, List, Some, None, true, ◌⊎◌}
+use Rattle.c_tree.specs.Checked.{most_height}
+use Rattle.c_tree.specs.Height.{program_height}
 use Rattle.c_tree.specs.Bare.{Program}
 use Rattle.c_tree.specs.Forget.{forget_program}
 use Rattle.c_tree.specs.Placed as placed
@@ -7,15 +9,17 @@ use Rattle.c_tree.specs.NameRules.BreachSets.{HasNone, least}
 use Rattle.c_tree.specs.NameRules.Programs.{breaches}
 use Rattle.c_lexer.specs.Cut.{Cut, FirstFault}
 use Rattle.c_lexer.specs.declared.token.Token.{Token}
-use Rattle.pragma_grammar.specs.declared.phrase.ParseKind.TheVariants.{Syntax, Outside, TooDeep}
+use Rattle.pragma_grammar.specs.declared.phrase.ParseKind.TheVariants.{TooDeep}
 use Rattle.c_printer.specs.Programs.{printed}
 use Rattle.c_printer.specs.ReadsBack.{Reads}
 use Rattle.c_grammar.specs.Reading.{IsTree, IsTooDeep, Blame}
 use Rattle.c_semantics.specs.Meaning.Programs.{outcome, turns_of}
 use Rattle.c_semantics.specs.Structure.Skeleton.{skeleton}
 use Rattle.c_meaning.specs.Plain.{is_plain}
+use Rattle.c_soundness.specs.NameBreaches.{BreaksNone}
 use Rattle.canonical_nests.specs.LoopRules.Programs.{first_directive}
-use Rattle.translator.specs.FirstText.{IsFirstText, IsFirstTextOf, reversed_text}
+use Rattle.apply_rewrite.specs.Reversible.{is_reversible_program}
+use Rattle.apply_rewrite.specs.CarriedOut.{carried_out}
 use Rattle.translator.specs.declared.refusal.Refusal.{Refusal}
 use Rattle.translator.specs.declared.refusal.Refusal.TheVariants.{Lex, Parse, Names, NotBuilt, Memory}
 
@@ -26,15 +30,34 @@ pub record SpellsChecked (tokens : List Token) (program : placed.Program) : Type
   pub tree : IsTree tokens program
   pub names : HasNone (breaches program)
 
--- what a text is read for
-pub data Purpose : Type 0 where
-  translation : Purpose
-  running : Purpose
+-- Each directive is a `reverse` without clauses, over a canonical loop that declares its variable and that no `break`
+-- leaves; and the program in which these are carried out breaks no name rule and has height at most 256.
+pub record IsReversible (program : Program) : Type 0 where
+  pub reversible : is_reversible_program program ≡ true
+  pub names : BreaksNone (carried_out program)
+  pub height : program_height (carried_out program) ≤ most_height
 
--- What is translated and run so far: a program without a directive; and the one shape with a directive is translated.
-abbrev pub IsBuilt : Purpose → placed.Program → Type 0
-IsBuilt translation program = (first_directive program ≡ None) ⊎ IsFirstText (printed (forget_program program))
-IsBuilt running program = first_directive program ≡ None
+-- What is translated and run so far: a program without a directive, or with such directives.
+abbrev pub IsBuilt : placed.Program → Type 0
+IsBuilt program = (first_directive program ≡ None) ⊎ IsReversible (forget_program program)
+
+-- the program that stands for it: itself, or with its directives carried out
+abbrev pub StandsFor : placed.Program → Program → Type 0
+StandsFor program result =
+    ((first_directive program ≡ None) × (result ≡ forget_program program))
+    ⊎ ((place : ℕ) × (first_directive program ≡ Some place) × IsReversible (forget_program program) × (result ≡ carried_out (forget_program program)))
+
+-- a program can't be a checked one, and so the refusal is at the place
+abbrev pub CannotStand : Refusal → ℕ → Program → Type 0
+CannotStand (NotBuilt at) place program = (at ≡ place) × (BreaksNone program → program_height program ≤ most_height → ⊥)
+CannotStand Memory place program = Unit {0}
+CannotStand _ place program = ⊥
+
+-- its directives can't be carried out so
+abbrev pub CannotBeReversed : Refusal → ℕ → Program → Type 0
+CannotBeReversed (NotBuilt at) place program = (at ≡ place) × (IsReversible program → ⊥)
+CannotBeReversed Memory place program = Unit {0}
+CannotBeReversed _ place program = ⊥
 
 -- ---- why a text is refused
 
@@ -45,25 +68,25 @@ BreaksNames Memory program = Unit {0}
 BreaksNames _ program = ⊥
 
 -- a program that breaks no name rule, and isn't built, is refused so, at its first directive
-abbrev pub IsUnbuilt : Purpose → Refusal → placed.Program → Type 0
-IsUnbuilt purpose (NotBuilt place) program = (first_directive program ≡ Some place) × (IsBuilt purpose program → ⊥)
-IsUnbuilt purpose Memory program = Unit {0}
-IsUnbuilt purpose _ program = ⊥
+abbrev pub IsUnbuilt : Refusal → placed.Program → Type 0
+IsUnbuilt (NotBuilt place) program = (first_directive program ≡ Some place) × (IsBuilt program → ⊥)
+IsUnbuilt Memory program = Unit {0}
+IsUnbuilt _ program = ⊥
 
 -- tokens are refused so
-abbrev pub TokensRefused : Purpose → Refusal → List Token → Type 0
-TokensRefused purpose (Lex kind place) tokens = ⊥
-TokensRefused purpose (Parse TooDeep place) tokens = IsTooDeep tokens place
-TokensRefused purpose (Parse kind place) tokens = Blame tokens kind place
-TokensRefused purpose (Names rule place) tokens = (program : placed.Program) × IsTree tokens program × BreaksNames (Names rule place) program
-TokensRefused purpose (NotBuilt place) tokens = (program : placed.Program) × SpellsChecked tokens program × IsUnbuilt purpose (NotBuilt place) program
-TokensRefused purpose Memory tokens = Unit {0}
+abbrev pub TokensRefused : Refusal → List Token → Type 0
+TokensRefused (Lex kind place) tokens = ⊥
+TokensRefused (Parse TooDeep place) tokens = IsTooDeep tokens place
+TokensRefused (Parse kind place) tokens = Blame tokens kind place
+TokensRefused (Names rule place) tokens = (program : placed.Program) × IsTree tokens program × BreaksNames (Names rule place) program
+TokensRefused (NotBuilt place) tokens = (program : placed.Program) × SpellsChecked tokens program × IsUnbuilt (NotBuilt place) program
+TokensRefused Memory tokens = Unit {0}
 
 -- a text is refused so: by its first lexical fault, or as its tokens are
-abbrev pub IsRefused : Purpose → Refusal → List ℕ → Type 0
-IsRefused purpose (Lex kind place) text = FirstFault text kind place
-IsRefused purpose Memory text = Unit {0}
-IsRefused purpose refusal text = (tokens : List Token) × Cut text tokens × TokensRefused purpose refusal tokens
+abbrev pub IsRefused : Refusal → List ℕ → Type 0
+IsRefused (Lex kind place) text = FirstFault text kind place
+IsRefused Memory text = Unit {0}
+IsRefused refusal text = (tokens : List Token) × Cut text tokens × TokensRefused refusal tokens
 
 -- a refusal whose cause is the text
 abbrev pub IsCause : Refusal → Type 0
@@ -71,13 +94,6 @@ IsCause Memory = ⊥
 IsCause _ = Unit {0}
 
 -- ---- what a text is translated to
-
--- The program has no directive and is written as it is; or it is the one shape with a directive, and the plain C of its
--- bounds is written.
-abbrev pub IsProgramWritten : placed.Program → List ℕ → Type 0
-IsProgramWritten program written =
-    ((first_directive program ≡ None) × (written ≡ printed (forget_program program)))
-    ⊎ ((from : ℕ) × (to : ℕ) × IsFirstTextOf (printed (forget_program program)) from to × (written ≡ reversed_text from to))
 
 -- The one program does what the other does, its directives in force: at every bound of at least 1 and on every input it
 -- prints, stores, traps or is cut alike, with as many turns; and it has the loops and the body copies that are wanted. It
@@ -88,37 +104,23 @@ pub record CarriesOut (result source : Program) : Type 0 where
   pub turns : (n : ℕ) (input : List ℤ) → 1 ≤ n → turns_of n result input ≡ turns_of n source input
   pub loops : skeleton result ≡ skeleton source
 
--- the program carries out the one that the text reads as
+-- The program carries out the one that the text reads as, and is that one itself where it has no directive. It breaks no
+-- name rule and has height at most 256.
 pub record IsTranslatedTree (text : List ℕ) (result : Program) : Type 0 where
   pub source : Program
   pub reads : Reads text source
   pub carried_out : CarriesOut result source
-
--- Both texts read as programs, of which the one carries out the other. What is written is the printed form of a program,
--- which is the source itself where that has no directive.
-pub record IsTranslation (text written : List ℕ) : Type 0 where
-  pub source : Program
-  pub result : Program
-  pub reads : Reads text source
-  pub reads_back : Reads written result
-  pub carried_out : CarriesOut result source
-  pub in_printed_form : written ≡ printed result
   pub unchanged : is_plain source ≡ true → result ≡ source
+  pub names : BreaksNone result
+  pub height : program_height result ≤ most_height
 
--- The text reads as the one shape with a directive, and the written bytes are the plain C of its bounds. That this plain
--- C carries the directive out isn't proved yet.
-pub record IsFirstTranslation (text written : List ℕ) : Type 0 where
-  pub source : Program
-  pub reads : Reads text source
-  pub from : ℕ
-  pub to : ℕ
-  pub first : IsFirstTextOf (printed source) from to
-  pub written_so : written ≡ reversed_text from to
-
--- what is written for a text
-abbrev pub IsWritten : List ℕ → List ℕ → Type 0
-IsWritten text written = IsTranslation text written ⊎ IsFirstTranslation text written
+-- both texts read as programs, of which the one carries out the other; what is written is the printed form of a program
+pub record IsTranslation (text written : List ℕ) : Type 0 where
+  pub result : Program
+  pub tree : IsTranslatedTree text result
+  pub reads_back : Reads written result
+  pub in_printed_form : written ≡ printed result
 
 -- the text is accepted
-abbrev pub IsAccepted : Purpose → List ℕ → Type 0
-IsAccepted purpose text = (tokens : List Token) × (program : placed.Program) × Cut text tokens × SpellsChecked tokens program × IsBuilt purpose program
+abbrev pub IsAccepted : List ℕ → Type 0
+IsAccepted text = (tokens : List Token) × (program : placed.Program) × Cut text tokens × SpellsChecked tokens program × IsBuilt program

@@ -1,3 +1,2 @@
-pub mod FirstText
 pub mod Answers
 pub mod Intake

@@ -1,11 +1,10 @@
 //! The answer for a text: its translation, or why it is refused.
 #![tactic(auto)]
 
-pub mod first_text;
+pub mod carrying_out;
 pub mod intake;
 pub mod laws;
 pub mod positions;
 pub mod refusal;
-pub mod reversed_loop;
 pub mod translate;
 pub mod tree;

@@ -2,7 +2,7 @@
 
 ghost use Rattle.std.specs.Prelude.{ℕ, List};
 ghost use Rattle.c_lexer.specs.Cut.{IsFault};
-ghost use Rattle.translator.specs.Answers.{Purpose, IsRefused};
+ghost use Rattle.translator.specs.Answers.{IsRefused};
 
 use c_lexer::token::{LexFault, LexKind};
 use c_tree::name_rule::NameRule;
@@ -41,7 +41,7 @@ impl From<AllocError> for Refusal {
 
 /// The refusal that a lexical fault is.
 pub fn lexical(fault: LexFault) -> Refusal
-    ensures { (purpose : Purpose) → (text : List ℕ) → IsFault text fault → IsRefused purpose result text }
+    ensures { (text : List ℕ) → IsFault text fault → IsRefused result text }
 {
     match fault {
         LexFault::At(kind, place) => Refusal::Lex(kind, place),

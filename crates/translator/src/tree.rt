@@ -10,8 +10,9 @@ ghost use Rattle.c_tree.specs.NameRules.BreachSets.{HasNone};
 ghost use Rattle.c_tree.specs.NameRules.Programs.{breaches};
 ghost use Rattle.c_lexer.specs.Cut.{Cut, IsFault};
 ghost use Rattle.c_grammar.specs.Reading.{IsTree};
-ghost use Rattle.translator.specs.Answers.{Purpose, running, SpellsChecked, IsTranslatedTree, IsAccepted, IsRefused, TokensRefused, BreaksNames};
+ghost use Rattle.translator.specs.Answers.{SpellsChecked, IsTranslatedTree, IsAccepted, IsRefused, TokensRefused, BreaksNames};
 
+use crate::carrying_out::carry_out;
 use crate::refusal::{Refusal, lexical};
 use c_grammar::laws::trees_may_be_checked;
 use c_lexer::lexer::lex;
@@ -21,7 +22,6 @@ use c_tree::checked::Checked;
 use c_tree::laws::places_only_are_forgotten;
 use c_tree::tree::Program;
 use c_types::check::{CheckFault, check};
-use canonical_nests::first_directive::first_directive;
 use pragma_grammar::phrase::ParseFault;
 use std::alloc::Global;
 
@@ -31,7 +31,7 @@ fn read(alloc: Global, tokens: &[Token]) -> Result<Program, Refusal>
     ensures tree { IfOk result (λ program. IsTree tokens.now (placed_program program)) }
     ensures well_formed { IfOk result (λ program. WellFormed (bare_program program)) }
     ensures height { IfOk result (λ program. program_height (bare_program program) ≤ most_height) }
-    ensures refused { IfErr result (λ refusal. (purpose : Purpose) → TokensRefused purpose refusal tokens.now) }
+    ensures refused { IfErr result (λ refusal. TokensRefused refusal tokens.now) }
 {
     trees_may_be_checked();
     match parse(alloc, tokens) {
@@ -67,14 +67,13 @@ fn checked(alloc: Global, program: Program) -> Result<Checked, Refusal>
 pub fn checked_tree(alloc: Global, tokens: &[Token]) -> Result<Checked, Refusal>
     requires { (text : List ℕ) × Cut text tokens.now }
     ensures spelled { IfOk result (λ checked. SpellsChecked tokens.now (placed_program checked)) }
-    ensures refused { IfErr result (λ refusal. (purpose : Purpose) → TokensRefused purpose refusal tokens.now) }
+    ensures refused { IfErr result (λ refusal. TokensRefused refusal tokens.now) }
 {
     let program = read(alloc, tokens)?;
     checked(alloc, program)
 }
 
-/// The program that carries out the one which the tokens of a text spell. So far it is that one itself, which has no
-/// directive.
+/// The program that carries out the one which the tokens of a text spell.
 ///
 /// # Errors
 ///
@@ -83,15 +82,11 @@ pub fn checked_tree(alloc: Global, tokens: &[Token]) -> Result<Checked, Refusal>
 pub fn tokens_tree(alloc: Global, tokens: &[Token]) -> Result<Checked, Refusal>
     requires { (text : List ℕ) × Cut text tokens.now }
     ensures tree { (text : List ℕ) → Cut text tokens.now → IfOk result (λ checked. IsTranslatedTree text (bare_program checked)) }
-    ensures accepted { (text : List ℕ) → Cut text tokens.now → OnOk result (IsAccepted running text) }
-    ensures refused { IfErr result (λ refusal. TokensRefused running refusal tokens.now) }
+    ensures accepted { (text : List ℕ) → Cut text tokens.now → OnOk result (IsAccepted text) }
+    ensures refused { IfErr result (λ refusal. TokensRefused refusal tokens.now) }
 {
     let checked = checked_tree(alloc, tokens)?;
-    places_only_are_forgotten(checked.program());
-    match first_directive(checked.program()) {
-        None => Ok(checked),
-        Some(place) => Err(Refusal::NotBuilt(place)),
-    }
+    carry_out(alloc, checked)
 }
 
 /// Likewise for a text that was cut into tokens, or has a lexical fault.
@@ -102,8 +97,8 @@ pub fn tokens_tree(alloc: Global, tokens: &[Token]) -> Result<Checked, Refusal>
 pub fn cut_tree(alloc: Global, cut: Result<Vec<Token>, LexFault>) -> Result<Checked, Refusal>
     requires { (text : List ℕ) × MatchResult cut (λ tokens. Cut text tokens.items) (IsFault text) }
     ensures tree { (text : List ℕ) → MatchResult cut (λ tokens. Cut text tokens.items) (IsFault text) → IfOk result (λ checked. IsTranslatedTree text (bare_program checked)) }
-    ensures accepted { (text : List ℕ) → MatchResult cut (λ tokens. Cut text tokens.items) (IsFault text) → OnOk result (IsAccepted running text) }
-    ensures refused { (text : List ℕ) → MatchResult cut (λ tokens. Cut text tokens.items) (IsFault text) → IfErr result (λ refusal. IsRefused running refusal text) }
+    ensures accepted { (text : List ℕ) → MatchResult cut (λ tokens. Cut text tokens.items) (IsFault text) → OnOk result (IsAccepted text) }
+    ensures refused { (text : List ℕ) → MatchResult cut (λ tokens. Cut text tokens.items) (IsFault text) → IfErr result (λ refusal. IsRefused refusal text) }
 {
     match cut {
         Ok(tokens) => tokens_tree(alloc, tokens.as_slice()),
@@ -115,8 +110,8 @@ pub fn cut_tree(alloc: Global, cut: Result<Vec<Token>, LexFault>) -> Result<Chec
 pub fn translate_tree(alloc: Global, text: &[u8]) -> Result<Checked, Refusal>
     requires { length text.now < 2 ^ 63 }
     ensures tree { IfOk result (λ checked. IsTranslatedTree text.now (bare_program checked)) }
-    ensures accepted { OnOk result (IsAccepted running text.now) }
-    ensures refused { IfErr result (λ refusal. IsRefused running refusal text.now) }
+    ensures accepted { OnOk result (IsAccepted text.now) }
+    ensures refused { IfErr result (λ refusal. IsRefused refusal text.now) }
 {
     cut_tree(alloc, lex(alloc, text))
 }
