@@ -1,12 +1,12 @@
 -- The parts of an `if` are runnable, and smaller.
 use Rattle.std.proofs.Common.{◌≡◌, ap, subst, ◌+◌, ◌≤◌, Option, Some, None, arith}
 use Rattle.c_tree.specs.Bare.{Expr, Stmts}
-use Rattle.c_tree.specs.WellFormed.{WellFormedExpr}
+use Rattle.c_meaning.specs.Held.{HeldExpr}
 use Rattle.c_meaning.specs.Choices.{if_of}
 use Rattle.c_meaning.specs.Runnable.{RunnableStmt, RunnableStmts}
 use Rattle.c_meaning.specs.Sizes.{stmt_size, stmts_size}
 
-pub choice_test : (e : Expr) (a : Stmts) (b : Option Stmts) → RunnableStmt (if_of e a b) → WellFormedExpr e
+pub choice_test : (e : Expr) (a : Stmts) (b : Option Stmts) → RunnableStmt (if_of e a b) → HeldExpr e
 choice_test e a None h = h.0
 choice_test e a (Some b) h = h.0
 

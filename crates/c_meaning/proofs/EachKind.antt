@@ -3,8 +3,8 @@ use Rattle.std.proofs.Common.{◌≡◌, ◌≢◌, ◌∙◌, ◌≤◌, sym, a
 use Rattle.std.specs.Prelude.{IfOk, IfErr, if◌then◌else◌}
 use Rattle.std.specs.Option.{option_map}
 use Rattle.c_tree.specs.Bare.{Name, Expr, num, Exprs, Target, Stmt, decl, set, step, input, while_, do_, for_, call, Stmts, MaybeStmt, no_stmt, Head, head, Program}
-use Rattle.c_tree.specs.BareOf.{bare_stmt, bare_stmts, maybe_stmt}
-use Rattle.c_tree.specs.declared.tree.Stmt as tree
+use Rattle.resolved_names.specs.Numbered.{numbered_stmt, numbered_stmts, maybe_stmt}
+use Rattle.resolved_names.specs.declared.tree.Stmt as tree
 use Rattle.c_tree.specs.Arithmetic.{and_then, convert}
 use Rattle.c_tree.specs.declared.arithmetic.Trap.{Trap}
 use Rattle.c_tree.specs.declared.arithmetic.Trap.TheVariants.{Unset}
@@ -95,20 +95,20 @@ module _ (n : ℕ) (p : Program) where
   -- ---- blocks and parts of heads
 
   module _ (xs ys : List tree.Stmt) (same : xs ≡ ys) (m m1 : State) (o o1 : Sunk) where
-    pub block_runs : (m2 : State) (len : ℕ) → len ≡ length m.frame → m2 ≡ with_frame (keep len m1.frame) m1 → (e : End) → Ran (exec_all n env (bare_stmts xs)) m o m1 o1 (Ok e) → Ran (in_block (exec_all n env (bare_stmts ys))) m o m2 o1 (Ok e)
+    pub block_runs : (m2 : State) (len : ℕ) → len ≡ length m.frame → m2 ≡ with_frame (keep len m1.frame) m1 → (e : End) → Ran (exec_all n env (numbered_stmts xs)) m o m1 o1 (Ok e) → Ran (in_block (exec_all n env (numbered_stmts ys))) m o m2 o1 (Ok e)
     block_runs m2 len long is e r =
-        subst (λ zs. Ran (in_block (exec_all n env (bare_stmts zs))) m o m2 o1 (Ok e)) same (left_ends (exec_all n env (bare_stmts xs)) m m1 m2 o o1 len long is e r)
+        subst (λ zs. Ran (in_block (exec_all n env (numbered_stmts zs))) m o m2 o1 (Ok e)) same (left_ends (exec_all n env (numbered_stmts xs)) m m1 m2 o o1 len long is e r)
 
-    pub block_faults : (x : RunFault) → Ran (exec_all n env (bare_stmts xs)) m o m1 o1 (Err x) → Ran (in_block (exec_all n env (bare_stmts ys))) m o m1 o1 (Err x)
-    block_faults x r = subst (λ zs. Ran (in_block (exec_all n env (bare_stmts zs))) m o m1 o1 (Err x)) same (block_fails (exec_all n env (bare_stmts xs)) m m1 o o1 m1 x r)
+    pub block_faults : (x : RunFault) → Ran (exec_all n env (numbered_stmts xs)) m o m1 o1 (Err x) → Ran (in_block (exec_all n env (numbered_stmts ys))) m o m1 o1 (Err x)
+    block_faults x r = subst (λ zs. Ran (in_block (exec_all n env (numbered_stmts zs))) m o m1 o1 (Err x)) same (block_fails (exec_all n env (numbered_stmts xs)) m m1 o o1 m1 x r)
 
   abbrev part : Option tree.Stmt → Meaning
-  part a = exec_maybe n env (maybe_stmt (option_map bare_stmt a))
+  part a = exec_maybe n env (maybe_stmt (option_map numbered_stmt a))
 
   pub part_skips : (a : Option tree.Stmt) (m : State) (o : Sunk) → a ≡ None → Ran (part a) m o m o (Ok Next)
   part_skips a m o is = subst (λ b. Ran (part b) m o m o (Ok Next)) (sym is) (ran_ends m o Next)
 
-  pub part_runs : (a : Option tree.Stmt) (b : tree.Stmt) (m m1 : State) (o o1 : Sunk) (r : Result End RunFault) → a ≡ Some b → Ran (exec n env (bare_stmt b)) m o m1 o1 r → Ran (part a) m o m1 o1 r
+  pub part_runs : (a : Option tree.Stmt) (b : tree.Stmt) (m m1 : State) (o o1 : Sunk) (r : Result End RunFault) → a ≡ Some b → Ran (exec n env (numbered_stmt b)) m o m1 o1 r → Ran (part a) m o m1 o1 r
   part_runs a b m m1 o o1 r is ran = subst (λ b. Ran (part b) m o m1 o1 r) (sym is) ran
 
   -- ---- if
@@ -173,7 +173,7 @@ module _ (n : ℕ) (p : Program) where
     loop_of = while_loop n (head_test env.defines (test_of l)) (turn_in n env l)
 
     loop_grows : Grows loop_of
-    loop_grows = repeat_keeps MoreLines lines_grow n (head_test env.defines (test_of l)) (turn_in n env l) (turn_grows n p l.counts (bare_stmts l.body.now) (next_of l))
+    loop_grows = repeat_keeps MoreLines lines_grow n (head_test env.defines (test_of l)) (turn_in n env l) (turn_grows n p l.counts (numbered_stmts l.body.now) (next_of l))
 
     module _ (m m1 m2 : State) (o o1 o2 : Sunk) where
       pub head_goes : Ran (exec_maybe n env i) m o m1 o1 (Ok Next) → (end end' : End) → end_of end' ≡ loop_end (end_of end) → Ran turns_of m1 o1 m2 o2 (Ok end) → Ran (head_run n env i l) m o m2 o2 (Ok end')
@@ -189,10 +189,10 @@ module _ (n : ℕ) (p : Program) where
       pub head_fails : (x : RunFault) → Ran (exec_maybe n env i) m o m1 o1 (Err x) → Ran (head_run n env i l) m o m1 o1 (Err x)
       head_fails x begun = then_fails (exec_maybe n env i) loop_of m m1 o o1 loop_grows m1 x begun
 
-      pub for_runs : (h : Head) → h ≡ head i (test_of l) (next_of l) → l.counts ≡ true → (r : Result End RunFault) → Ran (in_block (head_run n env i l)) m o m1 o1 r → Ran (exec n env (for_ h (bare_stmts l.body.now))) m o m1 o1 r
+      pub for_runs : (h : Head) → h ≡ head i (test_of l) (next_of l) → l.counts ≡ true → (r : Result End RunFault) → Ran (in_block (head_run n env i l)) m o m1 o1 r → Ran (exec n env (for_ h (numbered_stmts l.body.now))) m o m1 o1 r
       for_runs h is counts r ran =
-          run_as (for_ h (bare_stmts l.body.now)) (for_ (head i (test_of l) (next_of l)) (bare_stmts l.body.now)) m m1 o o1 r (ap (λ k. for_ k (bare_stmts l.body.now)) is)
-          (subst (λ b. Ran (in_block (λ s. runs.then_do (exec_maybe n env i s) (while_loop n (head_test env.defines (test_of l)) (counted_turn b (exec_all n env (bare_stmts l.body.now)) (exec_maybe n env (next_of l)))))) m o m1 o1 r) counts ran)
+          run_as (for_ h (numbered_stmts l.body.now)) (for_ (head i (test_of l) (next_of l)) (numbered_stmts l.body.now)) m m1 o o1 r (ap (λ k. for_ k (numbered_stmts l.body.now)) is)
+          (subst (λ b. Ran (in_block (λ s. runs.then_do (exec_maybe n env i s) (while_loop n (head_test env.defines (test_of l)) (counted_turn b (exec_all n env (numbered_stmts l.body.now)) (exec_maybe n env (next_of l)))))) m o m1 o1 r) counts ran)
 
   -- ---- calls
 

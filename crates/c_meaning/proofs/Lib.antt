@@ -17,3 +17,6 @@ pub mod States
 pub mod Values
 pub mod Steps
 pub mod Variables
+pub mod Heads
+pub mod Numbers
+pub mod Renamed

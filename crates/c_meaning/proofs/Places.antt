@@ -4,10 +4,10 @@ use Rattle.std.proofs.lemmas.List.{at_drop_more, drop_all, length-drop}
 use Rattle.std.proofs.lemmas.Bool.{ltb-true}
 use Rattle.std.specs.Prelude.{slice_index_or, nat_lt, if◌then◌else◌}
 use Rattle.c_tree.specs.Arithmetic.{and_then}
-use Rattle.c_tree.specs.BareOf.{bare_expr, bare_exprs}
+use Rattle.resolved_names.specs.Numbered.{numbered_expr, numbered_exprs}
 use Rattle.c_tree.specs.declared.arithmetic.Trap.{Trap}
 use Rattle.c_tree.specs.declared.arithmetic.Trap.TheVariants.{Index}
-use Rattle.c_tree.specs.declared.tree.Expr.{Expr}
+use Rattle.resolved_names.specs.declared.tree.Expr.{Expr}
 use Rattle.c_semantics.specs.Meaning.State.{State}
 use Rattle.c_semantics.specs.Meaning.Expressions.{Define, eval, place, in_dim}
 use Rattle.c_meaning.specs.Variables.{FitFrom}
@@ -51,31 +51,31 @@ below_dim d (pos k) i h = by (nat_lt k d) (λ e. ltb-true k d e) h
 -- the place after one subscript more
 module _ (ds : List Define) (s : State) (dims : List ℕ) (xs : List Expr) (k at : ℕ) (d : ℕ) (x : Expr) (within : k < length dims) (dim : d ≡ slice_index_or dims k d) (inside : k < length xs) (here : x ≡ slice_index_or xs k x) where
   abbrev rest : ℤ → Result ℕ Trap
-  rest z = and_then (in_dim d z) (λ i. place ds s (drop (k + 1) dims) (at * d + i) (bare_exprs (drop (k + 1) xs)))
+  rest z = and_then (in_dim d z) (λ i. place ds s (drop (k + 1) dims) (at * d + i) (numbered_exprs (drop (k + 1) xs)))
 
-  place_first : place ds s (drop k dims) at (bare_exprs (drop k xs)) ≡ and_then (eval ds s (bare_expr x)) rest
+  place_first : place ds s (drop k dims) at (numbered_exprs (drop k xs)) ≡ and_then (eval ds s (numbered_expr x)) rest
   place_first =
-      at_drop_more (λ ys. place ds s ys at (bare_exprs (drop k xs))) dims k d within
-      ∙ (ap (λ e. place ds s (e ∷ drop (k + 1) dims) at (bare_exprs (drop k xs))) (sym dim)
-      ∙ (at_drop_more (λ ys. place ds s (d ∷ drop (k + 1) dims) at (bare_exprs ys)) xs k x inside
-      ∙ ap (λ e. place ds s (d ∷ drop (k + 1) dims) at (bare_exprs (e ∷ drop (k + 1) xs))) (sym here)))
+      at_drop_more (λ ys. place ds s ys at (numbered_exprs (drop k xs))) dims k d within
+      ∙ (ap (λ e. place ds s (e ∷ drop (k + 1) dims) at (numbered_exprs (drop k xs))) (sym dim)
+      ∙ (at_drop_more (λ ys. place ds s (d ∷ drop (k + 1) dims) at (numbered_exprs ys)) xs k x inside
+      ∙ ap (λ e. place ds s (d ∷ drop (k + 1) dims) at (numbered_exprs (e ∷ drop (k + 1) xs))) (sym here)))
 
-  pub place_trap : (t : Trap) → eval ds s (bare_expr x) ≡ Err t → place ds s (drop k dims) at (bare_exprs (drop k xs)) ≡ Err t
+  pub place_trap : (t : Trap) → eval ds s (numbered_expr x) ≡ Err t → place ds s (drop k dims) at (numbered_exprs (drop k xs)) ≡ Err t
   place_trap t e = place_first ∙ ap (λ r. and_then r rest) e
 
-  pub place_outside : (z : ℤ) (t : Trap) → eval ds s (bare_expr x) ≡ Ok z → in_dim d z ≡ Err t → place ds s (drop k dims) at (bare_exprs (drop k xs)) ≡ Err t
-  place_outside z t e f = place_first ∙ (ap (λ r. and_then r rest) e ∙ ap (λ r. and_then r (λ i. place ds s (drop (k + 1) dims) (at * d + i) (bare_exprs (drop (k + 1) xs)))) f)
+  pub place_outside : (z : ℤ) (t : Trap) → eval ds s (numbered_expr x) ≡ Ok z → in_dim d z ≡ Err t → place ds s (drop k dims) at (numbered_exprs (drop k xs)) ≡ Err t
+  place_outside z t e f = place_first ∙ (ap (λ r. and_then r rest) e ∙ ap (λ r. and_then r (λ i. place ds s (drop (k + 1) dims) (at * d + i) (numbered_exprs (drop (k + 1) xs)))) f)
 
-  pub place_inside : (z : ℤ) (i : ℕ) → eval ds s (bare_expr x) ≡ Ok z → in_dim d z ≡ Ok i → place ds s (drop k dims) at (bare_exprs (drop k xs)) ≡ place ds s (drop (k + 1) dims) (at * d + i) (bare_exprs (drop (k + 1) xs))
-  place_inside z i e f = place_first ∙ (ap (λ r. and_then r rest) e ∙ ap (λ r. and_then r (λ i. place ds s (drop (k + 1) dims) (at * d + i) (bare_exprs (drop (k + 1) xs)))) f)
+  pub place_inside : (z : ℤ) (i : ℕ) → eval ds s (numbered_expr x) ≡ Ok z → in_dim d z ≡ Ok i → place ds s (drop k dims) at (numbered_exprs (drop k xs)) ≡ place ds s (drop (k + 1) dims) (at * d + i) (numbered_exprs (drop (k + 1) xs))
+  place_inside z i e f = place_first ∙ (ap (λ r. and_then r rest) e ∙ ap (λ r. and_then r (λ i. place ds s (drop (k + 1) dims) (at * d + i) (numbered_exprs (drop (k + 1) xs)))) f)
 
-no_dim : (ds : List Define) (s : State) (at : ℕ) (ys : List Expr) → 0 < length ys → place ds s [] at (bare_exprs ys) ≡ Err Index
+no_dim : (ds : List Define) (s : State) (at : ℕ) (ys : List Expr) → 0 < length ys → place ds s [] at (numbered_exprs ys) ≡ Err Index
 no_dim ds s at [] h = absurd (omega arith)
 no_dim ds s at (y ∷ ys) h = refl
 
-pub place_over : (ds : List Define) (s : State) (dims : List ℕ) (xs : List Expr) (k at : ℕ) → length dims ≤ k → k < length xs → place ds s (drop k dims) at (bare_exprs (drop k xs)) ≡ Err Index
+pub place_over : (ds : List Define) (s : State) (dims : List ℕ) (xs : List Expr) (k at : ℕ) → length dims ≤ k → k < length xs → place ds s (drop k dims) at (numbered_exprs (drop k xs)) ≡ Err Index
 place_over ds s dims xs k at none some =
-    ap (λ ys. place ds s ys at (bare_exprs (drop k xs))) (drop_all k dims none) ∙ no_dim ds s at (drop k xs) (omega (arith, length-drop k xs))
+    ap (λ ys. place ds s ys at (numbered_exprs (drop k xs))) (drop_all k dims none) ∙ no_dim ds s at (drop k xs) (omega (arith, length-drop k xs))
 
 pub place_fits : (at : ℕ) (dims : List ℕ) → Within at dims → at < 2 ^ 63
 place_fits at dims w = let top : w.count < 2 ^ 63 = head_fits w.count dims w.fit in omega (arith, w.below)

@@ -3,14 +3,13 @@ use Rattle.std.proofs.Common.{◌≡◌, ◌∙◌, sym, ap, refl, ℕ, ◌+◌,
 use Rattle.std.proofs.lemmas.List.{take_all}
 use Rattle.std.specs.Prelude.{slice_index_or, bytes_eq, if◌then◌else◌, is_some}
 use Rattle.c_tree.specs.Bare.{Name, Top, Program}
-use Rattle.c_tree.specs.BareOf.{bare_top}
+use Rattle.resolved_names.specs.Numbered.{numbered_top, number_name}
 use Rattle.c_tree.specs.declared.arithmetic.Trap.{Trap}
 use Rattle.c_tree.specs.declared.arithmetic.Trap.TheVariants.{Unset}
 use Rattle.c_tree.specs.declared.constant.TypedValue.{TypedValue}
 use Rattle.c_tree.specs.Constants.{defined_as}
-use Rattle.c_tree.specs.declared.tree.Span.{Span}
-use Rattle.c_tree.specs.declared.tree.Item.{Item}
-use Rattle.c_tree.specs.declared.tree.Item.TheVariants.{Define, Extern, Global, Function, Main}
+use Rattle.resolved_names.specs.declared.tree.Item.{Item}
+use Rattle.resolved_names.specs.declared.tree.Item.TheVariants.{Define, Extern, Global, Function, Main}
 use Rattle.c_tree.specs.declared.tree.Ty.{Ty}
 use Rattle.c_tree.specs.declared.tree.Ty.TheVariants.{Int}
 use Rattle.c_semantics.specs.Meaning.Expressions as meaning
@@ -24,45 +23,45 @@ pub env_more : (n : ℕ) (env : Env) (tops : Program) (t : Top) → env_after n 
 env_more n env [] t = refl
 env_more n env (u ∷ tops) t = env_more n (env_with n env u) tops t
 
-pub env_next : (n : ℕ) (xs : List Item) (i : ℕ) (y : Item) → i < length xs → y ≡ slice_index_or xs i y → env_after n no_env (map bare_top (take (i + 1) xs)) ≡ env_with n (env_after n no_env (map bare_top (take i xs))) (bare_top y)
-env_next n xs i y h at = ap (env_after n no_env) (tops_before xs i y h at) ∙ env_more n no_env (map bare_top (take i xs)) (bare_top y)
+pub env_next : (n : ℕ) (xs : List Item) (i : ℕ) (y : Item) → i < length xs → y ≡ slice_index_or xs i y → env_after n no_env (map numbered_top (take (i + 1) xs)) ≡ env_with n (env_after n no_env (map numbered_top (take i xs))) (numbered_top y)
+env_next n xs i y h at = ap (env_after n no_env) (tops_before xs i y h at) ∙ env_more n no_env (map numbered_top (take i xs)) (numbered_top y)
 
 -- ---- at an item that is looked at, of those that are left
 
-not_define : (y : Item) → ((d : Name) (neg : Bool) (k : ℕ) (t : Ty) (sp : Span) → y ≡ Define d neg k t sp → ⊥) → (n : ℕ) (env : Env) → (env_with n env (bare_top y)).defines ≡ env.defines
-not_define (Define d neg k t sp) other n env = absurd (other d neg k t sp refl)
-not_define (Extern port sp) other n env = refl
-not_define (Global t d at dims e) other n env = refl
-not_define (Function d at ps body sp) other n env = refl
-not_define (Main body sp) other n env = refl
+not_define : (y : Item) → ((d : ℕ) (neg : Bool) (k : ℕ) (t : Ty) → y ≡ Define d neg k t → ⊥) → (n : ℕ) (env : Env) → (env_with n env (numbered_top y)).defines ≡ env.defines
+not_define (Define d neg k t) other n env = absurd (other d neg k t refl)
+not_define (Extern port) other n env = refl
+not_define (Global t d dims e) other n env = refl
+not_define (Function d ps body) other n env = refl
+not_define (Main body) other n env = refl
 
 module _ (n : ℕ) (xs : List Item) (left : ℕ) (y : Item) (above : 0 < left) (within : left ≤ length xs) (at : y ≡ slice_index_or xs (left - 1) y) where
   abbrev before : Env
-  before = env_after n no_env (map bare_top (take (left - 1) xs))
+  before = env_after n no_env (map numbered_top (take (left - 1) xs))
 
-  pub env_here : env_after n no_env (map bare_top (take left xs)) ≡ env_with n before (bare_top y)
+  pub env_here : env_after n no_env (map numbered_top (take left xs)) ≡ env_with n before (numbered_top y)
   env_here =
       let more : left - 1 + 1 ≡ left = omega arith in
       let less : left - 1 < length xs = omega arith in
-      ap (λ k. env_after n no_env (map bare_top (take k xs))) (sym more) ∙ env_next n xs (left - 1) y less at
+      ap (λ k. env_after n no_env (map numbered_top (take k xs))) (sym more) ∙ env_next n xs (left - 1) y less at
 
-  pub define_found : (x d : Name) (neg : Bool) (k : ℕ) (t : Ty) (sp : Span) → y ≡ Define d neg k t sp → bytes_eq x d ≡ true → constant_in (env_after n no_env (map bare_top (take left xs))).defines x ≡ Some (defined_as neg k t)
-  define_found x d neg k t sp is hit =
+  pub define_found : (x : Name) (d : ℕ) (neg : Bool) (k : ℕ) (t : Ty) → y ≡ Define d neg k t → bytes_eq x (number_name d) ≡ true → constant_in (env_after n no_env (map numbered_top (take left xs))).defines x ≡ Some (defined_as neg k t)
+  define_found x d neg k t is hit =
       ap (λ e. constant_in e.defines x) env_here
-      ∙ (ap (λ z. constant_in (env_with n before (bare_top z)).defines x) is
+      ∙ (ap (λ z. constant_in (env_with n before (numbered_top z)).defines x) is
       ∙ ap {B = Option TypedValue} (λ b. if b then Some (defined_as neg k t) else constant_in before.defines x) hit)
 
-  pub define_passed : (x d : Name) (neg : Bool) (k : ℕ) (t : Ty) (sp : Span) → y ≡ Define d neg k t sp → bytes_eq x d ≡ false → constant_in (env_after n no_env (map bare_top (take left xs))).defines x ≡ constant_in before.defines x
-  define_passed x d neg k t sp is miss =
+  pub define_passed : (x : Name) (d : ℕ) (neg : Bool) (k : ℕ) (t : Ty) → y ≡ Define d neg k t → bytes_eq x (number_name d) ≡ false → constant_in (env_after n no_env (map numbered_top (take left xs))).defines x ≡ constant_in before.defines x
+  define_passed x d neg k t is miss =
       ap (λ e. constant_in e.defines x) env_here
-      ∙ (ap (λ z. constant_in (env_with n before (bare_top z)).defines x) is
+      ∙ (ap (λ z. constant_in (env_with n before (numbered_top z)).defines x) is
       ∙ ap {B = Option TypedValue} (λ b. if b then Some (defined_as neg k t) else constant_in before.defines x) miss)
 
-  pub define_other : (x : Name) → ((d : Name) (neg : Bool) (k : ℕ) (t : Ty) (sp : Span) → y ≡ Define d neg k t sp → ⊥) → constant_in (env_after n no_env (map bare_top (take left xs))).defines x ≡ constant_in before.defines x
+  pub define_other : (x : Name) → ((d : ℕ) (neg : Bool) (k : ℕ) (t : Ty) → y ≡ Define d neg k t → ⊥) → constant_in (env_after n no_env (map numbered_top (take left xs))).defines x ≡ constant_in before.defines x
   define_other x other = ap (λ e. constant_in e.defines x) env_here ∙ ap (λ ds. constant_in ds x) (not_define y other n before)
 
-pub define_all : (n : ℕ) (xs : List Item) (x : Name) → constant_in (env_after n no_env (map bare_top (take (length xs) xs))).defines x ≡ constant_in (env_after n no_env (map bare_top xs)).defines x
-define_all n xs x = ap (λ ys. constant_in (env_after n no_env (map bare_top ys)).defines x) (take_all (length xs) xs (omega arith))
+pub define_all : (n : ℕ) (xs : List Item) (x : Name) → constant_in (env_after n no_env (map numbered_top (take (length xs) xs))).defines x ≡ constant_in (env_after n no_env (map numbered_top xs)).defines x
+define_all n xs x = ap (λ ys. constant_in (env_after n no_env (map numbered_top ys)).defines x) (take_all (length xs) xs (omega arith))
 
 pub ruleset scopes = (define_all, good_at)
 

@@ -2,9 +2,9 @@
 use Rattle.std.proofs.Common.{◌≡◌, ◌≢◌, sym, subst, ℕ, zero, suc, ◌+◌, ◌-◌, ◌<◌, ◌≤◌, Bool, true, false, List, length, drop, Option, Result, Ok, Err, arith}
 use Rattle.std.specs.Prelude.{slice_index_or}
 use Rattle.c_tree.specs.Bare.{Expr, Stmts, MaybeStmt, Program}
-use Rattle.c_tree.specs.BareOf.{bare_stmt, bare_stmts}
+use Rattle.resolved_names.specs.Numbered.{numbered_stmt, numbered_stmts}
 use Rattle.c_tree.specs.declared.arithmetic.Trap.{Trap}
-use Rattle.c_tree.specs.declared.tree.Stmt as tree
+use Rattle.resolved_names.specs.declared.tree.Stmt as tree
 use Rattle.c_semantics.specs.Meaning.State.{State}
 use Rattle.c_semantics.specs.Meaning.Runs as runs
 use Rattle.c_semantics.specs.Meaning.Runs.{Run, Meaning, ends, then_do, ask, in_block, with_end, repeat, repeat_after, turn_of, for_turn, while_loop, do_loop, loop_end, turn_end}
@@ -32,18 +32,18 @@ module _ (n : ℕ) (p : Program) where
   -- ---- lists
 
   module _ (xs : List tree.Stmt) (i : ℕ) (m m1 : State) (o o1 : Sunk) where
-    pub stmts_done : length xs ≤ i → Ran (exec_all n env (bare_stmts (drop i xs))) m o m o (Ok Next)
+    pub stmts_done : length xs ≤ i → Ran (exec_all n env (numbered_stmts (drop i xs))) m o m o (Ok Next)
     stmts_done h = subst (λ a. Ran (exec_all n env a) m o m o (Ok Next)) (sym (stmts_end xs i h)) (ran_ends m o Next)
 
     module _ (x : tree.Stmt) (h : i < length xs) (at : x ≡ slice_index_or xs i x) where
-      pub stmts_next : Ran (exec n env (bare_stmt x)) m o m1 o1 (Ok Next) → Leads (exec_all n env (bare_stmts (drop i xs))) m o (exec_all n env (bare_stmts (drop (i + 1) xs))) m1 o1
-      stmts_next r = subst (λ a. Leads (exec_all n env a) m o (exec_all n env (bare_stmts (drop (i + 1) xs))) m1 o1) (sym (stmts_more xs i x h at)) (then_goes (exec n env (bare_stmt x)) (exec_all n env (bare_stmts (drop (i + 1) xs))) m m1 o o1 r)
+      pub stmts_next : Ran (exec n env (numbered_stmt x)) m o m1 o1 (Ok Next) → Leads (exec_all n env (numbered_stmts (drop i xs))) m o (exec_all n env (numbered_stmts (drop (i + 1) xs))) m1 o1
+      stmts_next r = subst (λ a. Leads (exec_all n env a) m o (exec_all n env (numbered_stmts (drop (i + 1) xs))) m1 o1) (sym (stmts_more xs i x h at)) (then_goes (exec n env (numbered_stmt x)) (exec_all n env (numbered_stmts (drop (i + 1) xs))) m m1 o o1 r)
 
-      pub stmts_stop : (e : End) → e ≢ Next → Ran (exec n env (bare_stmt x)) m o m1 o1 (Ok e) → Ran (exec_all n env (bare_stmts (drop i xs))) m o m1 o1 (Ok e)
-      stmts_stop e not r = subst (λ a. Ran (exec_all n env a) m o m1 o1 (Ok e)) (sym (stmts_more xs i x h at)) (then_stops (exec n env (bare_stmt x)) (exec_all n env (bare_stmts (drop (i + 1) xs))) m m1 o o1 e not r)
+      pub stmts_stop : (e : End) → e ≢ Next → Ran (exec n env (numbered_stmt x)) m o m1 o1 (Ok e) → Ran (exec_all n env (numbered_stmts (drop i xs))) m o m1 o1 (Ok e)
+      stmts_stop e not r = subst (λ a. Ran (exec_all n env a) m o m1 o1 (Ok e)) (sym (stmts_more xs i x h at)) (then_stops (exec n env (numbered_stmt x)) (exec_all n env (numbered_stmts (drop (i + 1) xs))) m m1 o o1 e not r)
 
-      pub stmts_fail : (f : RunFault) → Ran (exec n env (bare_stmt x)) m o m1 o1 (Err f) → Ran (exec_all n env (bare_stmts (drop i xs))) m o m1 o1 (Err f)
-      stmts_fail f r = subst (λ a. Ran (exec_all n env a) m o m1 o1 (Err f)) (sym (stmts_more xs i x h at)) (then_fails (exec n env (bare_stmt x)) (exec_all n env (bare_stmts (drop (i + 1) xs))) m m1 o o1 (stmts_grow n p (bare_stmts (drop (i + 1) xs))) m1 f r)
+      pub stmts_fail : (f : RunFault) → Ran (exec n env (numbered_stmt x)) m o m1 o1 (Err f) → Ran (exec_all n env (numbered_stmts (drop i xs))) m o m1 o1 (Err f)
+      stmts_fail f r = subst (λ a. Ran (exec_all n env a) m o m1 o1 (Err f)) (sym (stmts_more xs i x h at)) (then_fails (exec n env (numbered_stmt x)) (exec_all n env (numbered_stmts (drop (i + 1) xs))) m m1 o o1 (stmts_grow n p (numbered_stmts (drop (i + 1) xs))) m1 f r)
 
   -- ---- loops
 

@@ -1,10 +1,10 @@
 -- What the code knows of a function that is called, and of the arguments of a call.
 use Rattle.std.specs.Prelude.{◌≡◌, ◌+◌, ◌<◌, List, [], ◌∷◌, map, Option, Some, None, Result, Ok, Err, ℤ}
 use Rattle.c_tree.specs.Bare.{Name}
-use Rattle.c_tree.specs.BareOf.{bare_top, bare_expr, bare_param, bare_stmts}
+use Rattle.resolved_names.specs.Numbered.{number_name, numbered_top, numbered_expr, numbered_param, numbered_stmts}
 use Rattle.c_tree.specs.Arithmetic.{and_then, convert}
 use Rattle.c_tree.specs.declared.arithmetic.Trap.{Trap}
-use Rattle.c_tree.specs.declared.tree.Expr.{Expr}
+use Rattle.resolved_names.specs.declared.tree.Expr.{Expr}
 use Rattle.c_tree.specs.declared.tree.Ty.{Ty}
 use Rattle.c_semantics.specs.Meaning.State.{Var, State}
 use Rattle.c_semantics.specs.Meaning.Expressions.{Define, eval}
@@ -23,20 +23,20 @@ use Rattle.c_meaning.specs.Scopes.{env_of}
 use Rattle.c_meaning.specs.Sizes.{stmts_size, tops_size}
 
 abbrev pub function_of : Known → Function
-function_of f = record { name = f.name.now; params = map bare_param f.params.now; run = exec_all f.scope.bound (env_of f.scope) (bare_stmts f.body.now) }
+function_of f = record { name = number_name f.name; params = map numbered_param f.params.now; run = exec_all f.scope.bound (env_of f.scope) (numbered_stmts f.body.now) }
 
 -- what the name means at this place; its body lies before it
 pub record IsKnown (scope : Scope) (x : Name) (f : Known) : Type 0 where
   pub means : function_named x (env_of scope).functions ≡ Some (function_of f)
   pub bound : f.scope.bound ≡ scope.bound
-  pub known : RunnableTops (map bare_top f.scope.items.now)
-  pub body : RunnableStmts (bare_stmts f.body.now)
-  pub before : tops_size (map bare_top f.scope.items.now) + stmts_size (bare_stmts f.body.now) < tops_size (map bare_top scope.items.now)
+  pub known : RunnableTops (map numbered_top f.scope.items.now)
+  pub body : RunnableStmts (numbered_stmts f.body.now)
+  pub before : tops_size (map numbered_top f.scope.items.now) + stmts_size (numbered_stmts f.body.now) < tops_size (map numbered_top scope.items.now)
 
 -- the first of the arguments that are left, converted to its parameter's type
 abbrev pub argument_at : List Define → State → Ty → List Expr → Result (Option ℤ) Trap
 argument_at ds s t [] = Ok None
-argument_at ds s t (e ∷ es) = and_then (eval ds s (bare_expr e)) (λ z. and_then (convert t z) (λ y. Ok (Some y)))
+argument_at ds s t (e ∷ es) = and_then (eval ds s (numbered_expr e)) (λ z. and_then (convert t z) (λ y. Ok (Some y)))
 
 -- a trap stops the call, or memory is wanting
 abbrev pub Stops : Stop → Result (List Var) Trap → Type 0

@@ -1,10 +1,10 @@
 pub mod Choices
 pub mod Functions
 pub mod Globals
+pub mod Held
 pub mod Ends
 pub mod Loops
 pub mod Machines
-pub mod Marks
 pub mod Plain
 pub mod Runnable
 pub mod Running

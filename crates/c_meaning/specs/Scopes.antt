@@ -1,7 +1,7 @@
 -- What is known at a place of a program.
 use Rattle.std.specs.Prelude.{List, [], ◌∷◌, map, Option, Some, None, bytes_eq, if◌then◌else◌}
 use Rattle.c_tree.specs.Bare.{Name}
-use Rattle.c_tree.specs.BareOf.{bare_top}
+use Rattle.resolved_names.specs.Numbered.{numbered_top}
 use Rattle.c_tree.specs.declared.constant.TypedValue.{TypedValue}
 use Rattle.c_semantics.specs.Meaning.Expressions.{Define}
 use Rattle.c_semantics.specs.Meaning.SimpleStatements.{Env}
@@ -10,7 +10,7 @@ use Rattle.c_meaning.specs.declared.scope.Scope.{Scope}
 
 -- the defines and the functions of the items
 abbrev pub env_of : Scope → Env
-env_of s = env_after s.bound no_env (map bare_top s.items.now)
+env_of s = env_after s.bound no_env (map numbered_top s.items.now)
 
 -- what a name is defined as; the latest define counts
 abbrev pub constant_in : List Define → Name → Option TypedValue

@@ -1,9 +1,9 @@
 //! The types and the values of expressions (C11 6.5).
 
 ghost use Rattle.std.specs.Prelude.{◌≡◌, ℕ, map, IfOk, slice_get};
-ghost use Rattle.c_tree.specs.BareOf.{bare_top, bare_expr, bare_exprs};
+ghost use Rattle.resolved_names.specs.Numbered.{number_name, numbered_top, numbered_expr, numbered_exprs};
 ghost use Rattle.c_tree.specs.Arithmetic as numbers;
-ghost use Rattle.c_tree.specs.WellFormed.{WellFormedExpr, WellFormedExprs};
+ghost use Rattle.c_meaning.specs.Held.{HeldExpr, HeldExprs};
 ghost use Rattle.c_meaning.specs.Runnable.{RunnableTops};
 ghost use Rattle.c_semantics.specs.Meaning.State.{look};
 ghost use Rattle.c_semantics.specs.Meaning.Expressions as meaning;
@@ -15,14 +15,14 @@ use crate::machine::Machine;
 use crate::scope::{Scope, define_named};
 use c_tree::arithmetic::{Trap, apply_bin, apply_un, bin_type, common, convert, settled, un_type};
 use c_tree::constant::TypedValue;
-use c_tree::name::Name;
-use c_tree::tree::{BinOp, Expr, Ty, UnOp};
+use c_tree::tree::{BinOp, Ty, UnOp};
+use resolved_names::tree::Expr;
 
 /// The type of a name: that of the visible variable, else that of the define.
 #[tactic(auto, using(crate::proofs::Scopes::constants))]
-pub fn name_type(scope: &Scope, m: &Machine, name: &Name) -> Ty
-    requires known { RunnableTops (map bare_top scope.now.items.now) }
-    ensures { result ≡ meaning.name_type (look m.now name.now) (env_of scope.now).defines name.now }
+pub fn name_type(scope: &Scope, m: &Machine, name: usize) -> Ty
+    requires known { RunnableTops (map numbered_top scope.now.items.now) }
+    ensures { result ≡ meaning.name_type (look m.now (number_name name)) (env_of scope.now).defines (number_name name) }
 {
     match m.look(name) {
         Some(variable) => variable.ty(),
@@ -35,12 +35,12 @@ pub fn name_type(scope: &Scope, m: &Machine, name: &Name) -> Ty
 
 /// The type of an expression, which no value changes.
 pub fn type_of(scope: &Scope, m: &Machine, e: &Expr) -> Ty
-    requires known { RunnableTops (map bare_top scope.now.items.now) }
-    ensures { result ≡ meaning.type_of (env_of scope.now).defines m.now (bare_expr e.now) }
+    requires known { RunnableTops (map numbered_top scope.now.items.now) }
+    ensures { result ≡ meaning.type_of (env_of scope.now).defines m.now (numbered_expr e.now) }
 {
     match e {
         Expr::Num { ty, .. } | Expr::Cast { ty, .. } => *ty,
-        Expr::Read { name, .. } | Expr::Item { name, .. } => name_type(scope, m, name),
+        Expr::Read { name, .. } | Expr::Item { name, .. } => name_type(scope, m, *name),
         Expr::Un { op, of, .. } => un_type(*op, type_of(scope, m, of.get())),
         Expr::Bin {
             op,
@@ -61,10 +61,10 @@ pub fn type_of(scope: &Scope, m: &Machine, e: &Expr) -> Ty
 
 /// The value of a name without subscripts: that of the visible variable, else that of the define.
 #[tactic(auto, using(crate::proofs::Scopes::constants))]
-fn read(scope: &Scope, m: &Machine, name: &Name) -> Result<TypedValue, Trap>
-    requires known { RunnableTops (map bare_top scope.now.items.now) }
-    ensures value { value_in result ≡ meaning.scalar_value (look m.now name.now) (env_of scope.now).defines name.now }
-    ensures ty { IfOk result (λ v. v.ty ≡ meaning.name_type (look m.now name.now) (env_of scope.now).defines name.now) }
+fn read(scope: &Scope, m: &Machine, name: usize) -> Result<TypedValue, Trap>
+    requires known { RunnableTops (map numbered_top scope.now.items.now) }
+    ensures value { value_in result ≡ meaning.scalar_value (look m.now (number_name name)) (env_of scope.now).defines (number_name name) }
+    ensures ty { IfOk result (λ v. v.ty ≡ meaning.name_type (look m.now (number_name name)) (env_of scope.now).defines (number_name name)) }
 {
     match m.look(name) {
         Some(variable) => match variable.number() {
@@ -119,18 +119,18 @@ fn in_dim(dim: u64, subscript: i64) -> Result<u64, Trap>
 #[tactic(auto, using(crate::proofs::Values::values))]
 #[cycle(eval)]
 pub fn eval(scope: &Scope, m: &Machine, e: &Expr) -> Result<TypedValue, Trap>
-    requires known { RunnableTops (map bare_top scope.now.items.now) }
-    requires well_formed { WellFormedExpr (bare_expr e.now) }
-    ensures value { value_in result ≡ meaning.eval (env_of scope.now).defines m.now (bare_expr e.now) }
-    ensures ty { IfOk result (λ v. v.ty ≡ meaning.type_of (env_of scope.now).defines m.now (bare_expr e.now)) }
+    requires known { RunnableTops (map numbered_top scope.now.items.now) }
+    requires well_formed { HeldExpr (numbered_expr e.now) }
+    ensures value { value_in result ≡ meaning.eval (env_of scope.now).defines m.now (numbered_expr e.now) }
+    ensures ty { IfOk result (λ v. v.ty ≡ meaning.type_of (env_of scope.now).defines m.now (numbered_expr e.now)) }
 {
     match e {
         Expr::Num { value, ty, .. } => Ok(TypedValue {
             ty: *ty,
             value: *value as i64,
         }),
-        Expr::Read { name, .. } => read(scope, m, name),
-        Expr::Item { name, subs, .. } => element(scope, m, name, subs.as_slice()),
+        Expr::Read { name, .. } => read(scope, m, *name),
+        Expr::Item { name, subs, .. } => element(scope, m, *name, subs.as_slice()),
         Expr::Un { op, of, .. } => unary(*op, eval(scope, m, of.get())?),
         Expr::Bin {
             op,
@@ -164,9 +164,9 @@ pub fn eval(scope: &Scope, m: &Machine, e: &Expr) -> Result<TypedValue, Trap>
 #[tactic(auto, using(crate::proofs::Values::values))]
 #[cycle(eval)]
 fn chosen(scope: &Scope, m: &Machine, e: &Expr, ty: Ty) -> Result<TypedValue, Trap>
-    requires known { RunnableTops (map bare_top scope.now.items.now) }
-    requires well_formed { WellFormedExpr (bare_expr e.now) }
-    ensures value { value_in result ≡ meaning.eval (env_of scope.now).defines m.now (bare_expr e.now) }
+    requires known { RunnableTops (map numbered_top scope.now.items.now) }
+    requires well_formed { HeldExpr (numbered_expr e.now) }
+    ensures value { value_in result ≡ meaning.eval (env_of scope.now).defines m.now (numbered_expr e.now) }
     ensures ty { IfOk result (λ v. v.ty ≡ ty) }
 {
     Ok(TypedValue {
@@ -178,11 +178,11 @@ fn chosen(scope: &Scope, m: &Machine, e: &Expr, ty: Ty) -> Result<TypedValue, Tr
 /// The value of an array's element.
 #[tactic(auto, using(crate::proofs::Values::values))]
 #[cycle(eval)]
-fn element(scope: &Scope, m: &Machine, name: &Name, subs: &[Expr]) -> Result<TypedValue, Trap>
-    requires known { RunnableTops (map bare_top scope.now.items.now) }
-    requires well_formed { WellFormedExprs (bare_exprs subs.now) }
-    ensures value { value_in result ≡ numbers.and_then (meaning.place (env_of scope.now).defines m.now (meaning.dims_of (look m.now name.now)) 0 (bare_exprs subs.now)) (λ k. meaning.or_unset (slice_get (meaning.elements_of (look m.now name.now)) k)) }
-    ensures ty { IfOk result (λ v. v.ty ≡ meaning.name_type (look m.now name.now) (env_of scope.now).defines name.now) }
+fn element(scope: &Scope, m: &Machine, name: usize, subs: &[Expr]) -> Result<TypedValue, Trap>
+    requires known { RunnableTops (map numbered_top scope.now.items.now) }
+    requires well_formed { HeldExprs (numbered_exprs subs.now) }
+    ensures value { value_in result ≡ numbers.and_then (meaning.place (env_of scope.now).defines m.now (meaning.dims_of (look m.now (number_name name))) 0 (numbered_exprs subs.now)) (λ k. meaning.or_unset (slice_get (meaning.elements_of (look m.now (number_name name))) k)) }
+    ensures ty { IfOk result (λ v. v.ty ≡ meaning.name_type (look m.now (number_name name)) (env_of scope.now).defines (number_name name)) }
 {
     match m.look(name) {
         Some(variable) => {
@@ -206,10 +206,10 @@ fn element(scope: &Scope, m: &Machine, name: &Name, subs: &[Expr]) -> Result<Typ
 #[tactic(auto, using(crate::proofs::Values::values))]
 #[cycle(eval)]
 pub fn place(scope: &Scope, m: &Machine, dims: &[u64], subs: &[Expr]) -> Result<u64, Trap>
-    requires known { RunnableTops (map bare_top scope.now.items.now) }
-    requires well_formed { WellFormedExprs (bare_exprs subs.now) }
+    requires known { RunnableTops (map numbered_top scope.now.items.now) }
+    requires well_formed { HeldExprs (numbered_exprs subs.now) }
     requires fit { FitFrom 1 dims.now }
-    ensures { result ≡ meaning.place (env_of scope.now).defines m.now dims.now 0 (bare_exprs subs.now) }
+    ensures { result ≡ meaning.place (env_of scope.now).defines m.now dims.now 0 (numbered_exprs subs.now) }
 {
     let mut at = 0;
     'each: for (index, sub) in subs.iter().enumerate() {

@@ -1,8 +1,8 @@
 //! Calls of functions: the function that a name means, and the frame that holds its arguments.
 
 ghost use Rattle.std.specs.Prelude.{◌≡◌, [], ◌∷◌, ◌++◌, map, drop, reverse, OnOk, IfOk, IfErr, IfSome, IfNone};
-ghost use Rattle.c_tree.specs.BareOf.{bare_top, bare_exprs, bare_param};
-ghost use Rattle.c_tree.specs.WellFormed.{WellFormedExprs};
+ghost use Rattle.resolved_names.specs.Numbered.{number_name, numbered_top, numbered_exprs, numbered_param};
+ghost use Rattle.c_meaning.specs.Held.{HeldExprs};
 ghost use Rattle.c_semantics.specs.Meaning.State.{scalar};
 ghost use Rattle.c_semantics.specs.Meaning.SimpleStatements as meaning;
 ghost use Rattle.c_meaning.specs.Functions.{IsKnown, Stops, argument_at};
@@ -14,14 +14,13 @@ use crate::machine::Machine;
 use crate::scope::Scope;
 use crate::variable::{Cell, Variable};
 use c_tree::arithmetic::{Trap, convert};
-use c_tree::name::Name;
-use c_tree::tree::{Expr, Item, Param, Stmt};
+use resolved_names::tree::{Expr, Item, Param, Stmt};
 use std::alloc::{AllocError, Global};
 
 /// A function, with what is known in its body.
 #[derive(Clone, Copy, Debug)]
 pub struct Known<'p> {
-    pub name: &'p Name,
+    pub name: usize,
     pub params: &'p [Param],
     pub body: &'p [Stmt],
     pub scope: Scope<'p>,
@@ -36,10 +35,10 @@ pub enum Stop {
 
 /// The last function of a name among the items. Its body knows what stands before it.
 #[tactic(auto, using(crate::proofs::Calls::functions))]
-pub fn function_named<'p>(scope: &Scope<'p>, name: &Name) -> Option<Known<'p>>
-    requires { RunnableTops (map bare_top scope.now.items.now) }
-    ensures found { IfSome result (λ f. IsKnown scope.now name.now f) }
-    ensures none { IfNone result (meaning.function_named name.now (env_of scope.now).functions ≡ None) }
+pub fn function_named<'p>(scope: &Scope<'p>, name: usize) -> Option<Known<'p>>
+    requires { RunnableTops (map numbered_top scope.now.items.now) }
+    ensures found { IfSome result (λ f. IsKnown scope.now (number_name name) f) }
+    ensures none { IfNone result (meaning.function_named (number_name name) (env_of scope.now).functions ≡ None) }
 {
     let mut left = scope.items.len();
     'each: while left > 0 {
@@ -51,9 +50,9 @@ pub fn function_named<'p>(scope: &Scope<'p>, name: &Name) -> Option<Known<'p>>
             ..
         } = &scope.items[left]
         {
-            if name == defined {
+            if name == *defined {
                 return Some(Known {
-                    name: defined,
+                    name: *defined,
                     params: params.as_slice(),
                     body: body.as_slice(),
                     scope: Scope {
@@ -76,8 +75,8 @@ fn argument(
     args: &[Expr],
     index: usize,
 ) -> Result<Option<i64>, Trap>
-    requires known { RunnableTops (map bare_top scope.now.items.now) }
-    requires well_formed { WellFormedExprs (bare_exprs args.now) }
+    requires known { RunnableTops (map numbered_top scope.now.items.now) }
+    requires well_formed { HeldExprs (numbered_exprs args.now) }
     ensures { result ≡ argument_at (env_of scope.now).defines m.now param.now.ty (drop index args.now) }
 {
     if index >= args.len() {
@@ -88,34 +87,34 @@ fn argument(
 }
 
 /// A parameter's variable becomes the innermost of a frame.
-fn push_argument<'p>(
-    frame: &mut Vec<Variable<'p>>,
-    param: &'p Param,
+fn push_argument(
+    frame: &mut Vec<Variable>,
+    param: &Param,
     value: Option<i64>,
 ) -> Result<(), AllocError>
-    ensures { OnOk result (frame.new.items ≡ frame.old.items ++ record { name = param.now.name; cell = scalar param.now.ty value } ∷ []) }
+    ensures { OnOk result (frame.new.items ≡ frame.old.items ++ record { name = number_name param.now.name; cell = scalar param.now.ty value } ∷ []) }
 {
     let cell = Cell::Scalar {
         ty: param.ty,
         value,
     };
-    frame.push(Variable::new(&param.name, cell))?;
+    frame.push(Variable::new(param.name, cell))?;
     Ok(())
 }
 
 /// The frame that holds the arguments, which are evaluated from left to right (C11 6.5.2.2). A parameter without an
 /// argument is unset.
 #[tactic(auto, using(crate::proofs::Calls::calls))]
-pub fn arguments<'p>(
+pub fn arguments(
     scope: &Scope,
     m: &Machine,
-    params: &'p [Param],
+    params: &[Param],
     args: &[Expr],
-) -> Result<Vec<Variable<'p>>, Stop>
-    requires known { RunnableTops (map bare_top scope.now.items.now) }
-    requires well_formed { WellFormedExprs (bare_exprs args.now) }
-    ensures frame { IfOk result (λ vs. meaning.arguments (env_of scope.now).defines m.now (map bare_param params.now) (bare_exprs args.now) [] ≡ Ok (reverse vs.items)) }
-    ensures trap { IfErr result (λ e. Stops e (meaning.arguments (env_of scope.now).defines m.now (map bare_param params.now) (bare_exprs args.now) [])) }
+) -> Result<Vec<Variable>, Stop>
+    requires known { RunnableTops (map numbered_top scope.now.items.now) }
+    requires well_formed { HeldExprs (numbered_exprs args.now) }
+    ensures frame { IfOk result (λ vs. meaning.arguments (env_of scope.now).defines m.now (map numbered_param params.now) (numbered_exprs args.now) [] ≡ Ok (reverse vs.items)) }
+    ensures trap { IfErr result (λ e. Stops e (meaning.arguments (env_of scope.now).defines m.now (map numbered_param params.now) (numbered_exprs args.now) [])) }
 {
     let mut frame = Vec::new(m.alloc());
     'each: for (index, param) in params.iter().enumerate() {

@@ -3,8 +3,8 @@
 ghost use Rattle.std.specs.Prelude.{◌≡◌, map, unwrap_or, pos, IfOk, IfSome, IfNone, OnOk};
 ghost use Rattle.std.specs.Option.{option_map};
 ghost use Rattle.c_tree.specs.Bare.{expr_list};
-ghost use Rattle.c_tree.specs.BareOf.{bare_top, bare_expr, bare_exprs};
-ghost use Rattle.c_tree.specs.WellFormed.{WellFormedExpr, WellFormedExprs, WellFormedOption};
+ghost use Rattle.resolved_names.specs.Numbered.{numbered_top, numbered_expr, numbered_exprs};
+ghost use Rattle.c_meaning.specs.Held.{HeldExpr, HeldExprs, HeldOption};
 ghost use Rattle.c_semantics.specs.Loops.Directives.{number};
 ghost use Rattle.c_semantics.specs.Meaning.Expressions as values;
 ghost use Rattle.c_semantics.specs.Meaning.Programs as programs;
@@ -18,18 +18,19 @@ use crate::expressions::eval;
 use crate::machine::Machine;
 use crate::scope::{Scope, define_named};
 use crate::variable::Cell;
-use c_tree::tree::{Expr, ExprList, Item, Ty};
+use c_tree::tree::Ty;
+use resolved_names::tree::{Expr, ExprList, Item};
 use std::alloc::{AllocError, Global};
 
 /// Whether an expression has only literals and defines.
 #[tactic(auto, using(crate::proofs::Scopes::constants))]
 fn only_constants(scope: &Scope, e: &Expr) -> bool
-    requires known { RunnableTops (map bare_top scope.now.items.now) }
-    ensures { result ≡ values.only_constants (env_of scope.now).defines (bare_expr e.now) }
+    requires known { RunnableTops (map numbered_top scope.now.items.now) }
+    ensures { result ≡ values.only_constants (env_of scope.now).defines (numbered_expr e.now) }
 {
     match e {
         Expr::Num { .. } => true,
-        Expr::Read { name, .. } => define_named(scope, name).is_some(),
+        Expr::Read { name, .. } => define_named(scope, *name).is_some(),
         Expr::Item { .. } => false,
         Expr::Un { of, .. } | Expr::Cast { of, .. } => only_constants(scope, of.get()),
         Expr::Bin { left, right, .. } => {
@@ -45,9 +46,9 @@ fn only_constants(scope: &Scope, e: &Expr) -> bool
 
 /// The value of a constant expression (C11 6.6), and `None` exactly where an expression isn't one.
 fn constant(alloc: Global, scope: &Scope, e: &Expr) -> Option<i64>
-    requires known { RunnableTops (map bare_top scope.now.items.now) }
-    requires well_formed { WellFormedExpr (bare_expr e.now) }
-    ensures { result ≡ values.constant (env_of scope.now).defines (bare_expr e.now) }
+    requires known { RunnableTops (map numbered_top scope.now.items.now) }
+    requires well_formed { HeldExpr (numbered_expr e.now) }
+    ensures { result ≡ values.constant (env_of scope.now).defines (numbered_expr e.now) }
 {
     if !only_constants(scope, e) {
         return None;
@@ -60,9 +61,9 @@ fn constant(alloc: Global, scope: &Scope, e: &Expr) -> Option<i64>
 
 /// A scalar's initial value.
 fn initial_number(alloc: Global, scope: &Scope, init: &Option<Expr>) -> i64
-    requires known { RunnableTops (map bare_top scope.now.items.now) }
-    requires well_formed { WellFormedOption (option_map bare_expr init.now) }
-    ensures { result ≡ number_or_0 (env_of scope.now).defines (option_map bare_expr init.now) }
+    requires known { RunnableTops (map numbered_top scope.now.items.now) }
+    requires well_formed { HeldOption (option_map numbered_expr init.now) }
+    ensures { result ≡ number_or_0 (env_of scope.now).defines (option_map numbered_expr init.now) }
 {
     match init {
         None => 0,
@@ -73,9 +74,9 @@ fn initial_number(alloc: Global, scope: &Scope, init: &Option<Expr>) -> i64
 /// The dimensions of an array.
 #[tactic(auto, using(crate::proofs::Values::values))]
 fn dimensions(alloc: Global, scope: &Scope, dims: &[Expr]) -> Result<Vec<u64>, AllocError>
-    requires known { RunnableTops (map bare_top scope.now.items.now) }
-    requires well_formed { WellFormedExprs (bare_exprs dims.now) }
-    ensures { IfOk result (λ numbers. numbers.items ≡ map (λ e. number (env_of scope.now).defines (bare_expr e)) dims.now) }
+    requires known { RunnableTops (map numbered_top scope.now.items.now) }
+    requires well_formed { HeldExprs (numbered_exprs dims.now) }
+    ensures { IfOk result (λ numbers. numbers.items ≡ map (λ e. number (env_of scope.now).defines (numbered_expr e)) dims.now) }
 {
     let mut numbers = Vec::new(alloc);
     'each: for dim in dims {
@@ -105,9 +106,9 @@ fn element_count(dims: &[u64]) -> Option<u64>
 
 /// An array at the start. No memory has room for one whose elements 63 bits can't count.
 fn array(alloc: Global, scope: &Scope, ty: Ty, dims: &ExprList) -> Result<Cell, AllocError>
-    requires known { RunnableTops (map bare_top scope.now.items.now) }
-    requires well_formed { WellFormedExprs (bare_exprs dims.now) }
-    ensures cell { IfOk result (λ cell. cell_of cell ≡ zeros ty (map (λ e. number (env_of scope.now).defines (bare_expr e)) dims.now)) }
+    requires known { RunnableTops (map numbered_top scope.now.items.now) }
+    requires well_formed { HeldExprs (numbered_exprs dims.now) }
+    ensures cell { IfOk result (λ cell. cell_of cell ≡ zeros ty (map (λ e. number (env_of scope.now).defines (numbered_expr e)) dims.now)) }
     ensures is_cell { IfOk result (λ cell. IsCell cell) }
 {
     let dims = dimensions(alloc, scope, dims.as_slice())?;
@@ -128,10 +129,10 @@ fn initial(
     dims: &ExprList,
     init: &Option<Expr>,
 ) -> Result<Cell, AllocError>
-    requires known { RunnableTops (map bare_top scope.now.items.now) }
-    requires well_formed { WellFormedExprs (bare_exprs dims.now) }
-    requires init { WellFormedOption (option_map bare_expr init.now) }
-    ensures cell { IfOk result (λ cell. cell_of cell ≡ programs.initial (env_of scope.now).defines ty (expr_list (bare_exprs dims.now)) (option_map bare_expr init.now)) }
+    requires known { RunnableTops (map numbered_top scope.now.items.now) }
+    requires well_formed { HeldExprs (numbered_exprs dims.now) }
+    requires init { HeldOption (option_map numbered_expr init.now) }
+    ensures cell { IfOk result (λ cell. cell_of cell ≡ programs.initial (env_of scope.now).defines ty (expr_list (numbered_exprs dims.now)) (option_map numbered_expr init.now)) }
     ensures is_cell { IfOk result (λ cell. IsCell cell) }
 {
     if dims.is_empty() {
@@ -144,10 +145,10 @@ fn initial(
 }
 
 /// The file-scope variable of an item becomes one of the machine, where the item declares one.
-pub fn begin<'p>(scope: &Scope, m: &mut Machine<'p>, item: &'p Item) -> Result<(), AllocError>
-    requires known { RunnableTops (map bare_top scope.now.items.now) }
-    requires runnable { RunnableTop (bare_top item.now) }
-    ensures { OnOk result (m.new ≡ with_globals (programs.globals_with (env_of scope.now).defines m.old.globals (bare_top item.now)) m.old) }
+pub fn begin(scope: &Scope, m: &mut Machine, item: &Item) -> Result<(), AllocError>
+    requires known { RunnableTops (map numbered_top scope.now.items.now) }
+    requires runnable { RunnableTop (numbered_top item.now) }
+    ensures { OnOk result (m.new ≡ with_globals (programs.globals_with (env_of scope.now).defines m.old.globals (numbered_top item.now)) m.old) }
 {
     match item {
         Item::Global {
@@ -158,7 +159,7 @@ pub fn begin<'p>(scope: &Scope, m: &mut Machine<'p>, item: &'p Item) -> Result<(
             ..
         } => {
             let cell = initial(m.alloc(), scope, *ty, dims, init)?;
-            m.add_global(name, cell)
+            m.add_global(*name, cell)
         }
         _ => Ok(()),
     }

@@ -3,7 +3,8 @@
 ghost use Rattle.std.specs.Prelude.{◌≡◌, ◌≤◌, map, true, Err, IfOk, OnOk, OnErr};
 ghost use Rattle.outside_io.specs.Bytes.{Gains, GainsPrefix};
 ghost use Rattle.outside_io.specs.Faults.{Rose};
-ghost use Rattle.c_tree.specs.BareOf.{bare_program, bare_top};
+ghost use Rattle.c_tree.specs.BareOf.{bare_program};
+ghost use Rattle.resolved_names.specs.Numbered.{numbered_top};
 ghost use Rattle.c_semantics.specs.Meaning.Programs as programs;
 ghost use Rattle.c_semantics.specs.Meaning.Programs.{outcome, turns_of};
 ghost use Rattle.c_meaning.specs.Ends.{finish_of};
@@ -18,8 +19,9 @@ use crate::run::{End, Run, RunFault, finish};
 use crate::scope::Scope;
 use crate::statements::run_block;
 use c_tree::checked::Checked;
-use c_tree::tree::Item;
 use outside_io::traits::Sink;
+use resolved_names::resolve::resolve;
+use resolved_names::tree::Item;
 use std::alloc::Global;
 
 /// The items in order, up to `main`, which runs in a frame of its own.
@@ -29,8 +31,8 @@ fn run_items<'p, K: Sink>(
     m: &mut Machine<'p>,
     out: &mut K,
 ) -> Result<End, RunFault>
-    requires { RunnableTops (map bare_top items.now) }
-    ensures { Ran (programs.run_items bound (map bare_top items.now) programs.no_env) m.old (sunk (K.held out.old) (K.faults out.old)) m.new (sunk (K.held out.new) (K.faults out.new)) result }
+    requires { RunnableTops (map numbered_top items.now) }
+    ensures { Ran (programs.run_items bound (map numbered_top items.now) programs.no_env) m.old (sunk (K.held out.old) (K.faults out.old)) m.new (sunk (K.held out.new) (K.faults out.new)) result }
 {
     'each: for (index, item) in items.iter().enumerate() {
         let scope = Scope {
@@ -46,6 +48,30 @@ fn run_items<'p, K: Sink>(
         }
     }
     Ok(End::Next)
+}
+
+/// Runs a program whose names are numbers.
+fn run_numbered<'p, K: Sink>(
+    alloc: Global,
+    bound: u64,
+    items: &'p [Item],
+    input: &'p [i64],
+    out: &mut K,
+) -> Result<Run, RunFault>
+    requires { RunnableTops (map numbered_top items.now) }
+    ensures lines { OnOk result (Gains (K.held out.old) (K.held out.new) (lines_text (outcome bound (map numbered_top items.now) input.now).lines)) }
+    ensures end { IfOk result (λ run. finish_of run.end ≡ (outcome bound (map numbered_top items.now) input.now).end) }
+    ensures turns { IfOk result (λ run. run.turns ≡ counted (turns_of bound (map numbered_top items.now) input.now)) }
+    ensures part { OnErr result (GainsPrefix (K.held out.old) (K.held out.new) (lines_text (outcome bound (map numbered_top items.now) input.now).lines)) }
+    ensures failed { result ≡ Err RunFault.WriteFault → Rose (K.faults out.old) (K.faults out.new) }
+    ensures faults { K.faults out.old ≤ K.faults out.new }
+{
+    let mut m = Machine::new(alloc, input);
+    let end = run_items(bound, items, &mut m, out)?;
+    Ok(Run {
+        end: finish(end),
+        turns: m.turns(),
+    })
 }
 
 /// Runs a program that holds no directive, with at most `bound` turns of each execution of a loop. What it prints goes
@@ -69,11 +95,9 @@ pub fn interpret<K: Sink>(
     ensures failed { result ≡ Err RunFault.WriteFault → Rose (K.faults out.old) (K.faults out.new) }
     ensures faults { K.faults out.old ≤ K.faults out.new }
 {
-    let program = checked.program();
-    let mut m = Machine::new(alloc, input);
-    let end = run_items(bound, program.items.as_slice(), &mut m, out)?;
-    Ok(Run {
-        end: finish(end),
-        turns: m.turns(),
-    })
+    let items = match resolve(alloc, checked.program().items.as_slice()) {
+        Ok(items) => items,
+        Err(_) => return Err(RunFault::Memory),
+    };
+    run_numbered(alloc, bound, items.as_slice(), input, out)
 }

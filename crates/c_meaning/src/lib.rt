@@ -10,7 +10,6 @@ pub mod interpret;
 pub mod lines;
 pub mod loops;
 pub mod machine;
-pub mod mark;
 pub mod run;
 pub mod scope;
 pub mod simple;

@@ -1,6 +1,6 @@
 //! A loop: what it tests, and what one turn of it does.
 
-use c_tree::tree::{Expr, Stmt, StmtList};
+use resolved_names::tree::{Expr, Stmt, StmtList};
 
 /// A loop. A `for` counts its turns, and each of them ends with the head's last part.
 #[derive(Clone, Copy, Debug)]

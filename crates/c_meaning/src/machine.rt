@@ -4,14 +4,12 @@ ghost use Rattle.std.specs.Prelude.{◌≡◌, ◌+◌, ◌<◌, ◌++◌, ◌�
 ghost use Rattle.std.specs.Option.{option_copied};
 ghost use Rattle.c_semantics.specs.Meaning.State.{look, push, store, keep, with_frame, with_globals};
 ghost use Rattle.c_semantics.specs.Meaning.SimpleStatements.{changed, next_input, rest_of};
-ghost use Rattle.c_meaning.specs.Marks.{mark_of};
+ghost use Rattle.resolved_names.specs.Numbered.{number_name};
 ghost use Rattle.c_meaning.specs.Variables.{cell_of, cell_in, first_at, IsCell};
 ghost use Rattle.c_meaning.specs.States.{start, one_turn_more};
 
-use crate::mark::{Mark, mark_of};
 use crate::variable::{Cell, Variable};
 use c_tree::arithmetic::Trap;
-use c_tree::name::Name;
 use std::alloc::{AllocError, Global};
 use std::marker::Model;
 use std::mem;
@@ -21,9 +19,9 @@ use std::mem;
 pub struct Machine<'p> {
     alloc: Global,
     /// The variables of the running function, the innermost last.
-    frame: Vec<Variable<'p>>,
+    frame: Vec<Variable>,
     /// The file-scope variables, in their order.
-    globals: Vec<Variable<'p>>,
+    globals: Vec<Variable>,
     input: &'p [i64],
     turns: u64,
 }
@@ -39,15 +37,14 @@ impl<'p> Model for Machine<'p> {
 
 /// Where the last variable of a name stands.
 #[tactic(auto, using(crate::proofs::Variables::variables))]
-fn last_named(variables: &[Variable], name: &Name, mark: Mark) -> Option<usize>
-    requires { mark ≡ mark_of name.now }
-    ensures found { IfSome result (λ i. i + first_at name.now (reverse variables.now) + 1 ≡ length variables.now) }
-    ensures none { IfNone result (first_at name.now (reverse variables.now) ≡ length variables.now) }
+fn last_named(variables: &[Variable], name: usize) -> Option<usize>
+    ensures found { IfSome result (λ i. i + first_at (number_name name) (reverse variables.now) + 1 ≡ length variables.now) }
+    ensures none { IfNone result (first_at (number_name name) (reverse variables.now) ≡ length variables.now) }
 {
     let mut left = variables.len();
     'each: while left > 0 {
         left -= 1;
-        if variables[left].is_named(name, mark) {
+        if variables[left].is_named(name) {
             return Some(left);
         }
     }
@@ -56,13 +53,12 @@ fn last_named(variables: &[Variable], name: &Name, mark: Mark) -> Option<usize>
 
 /// Where the first variable of a name stands.
 #[tactic(auto, using(crate::proofs::Variables::variables))]
-fn first_named(variables: &[Variable], name: &Name, mark: Mark) -> Option<usize>
-    requires { mark ≡ mark_of name.now }
-    ensures found { IfSome result (λ i. (i ≡ first_at name.now variables.now) × (i < length variables.now)) }
-    ensures none { IfNone result (first_at name.now variables.now ≡ length variables.now) }
+fn first_named(variables: &[Variable], name: usize) -> Option<usize>
+    ensures found { IfSome result (λ i. (i ≡ first_at (number_name name) variables.now) × (i < length variables.now)) }
+    ensures none { IfNone result (first_at (number_name name) variables.now ≡ length variables.now) }
 {
     'each: for (index, variable) in variables.iter().enumerate() {
-        if variable.is_named(name, mark) {
+        if variable.is_named(name) {
             return Some(index);
         }
     }
@@ -85,13 +81,12 @@ impl<'p> Machine<'p> {
 
     /// The variable that a name means: the innermost of the frame, else the file's.
     #[tactic(auto, using(crate::proofs::Variables::places))]
-    pub fn look(&self, name: &Name) -> Option<&Variable<'p>>
-        ensures { cell_in (option_copied result) ≡ look self.now name.now }
+    pub fn look(&self, name: usize) -> Option<&Variable>
+        ensures { cell_in (option_copied result) ≡ look self.now (number_name name) }
     {
-        let mark = mark_of(name);
-        match last_named(self.frame.as_slice(), name, mark) {
+        match last_named(self.frame.as_slice(), name) {
             Some(index) => Some(&self.frame[index]),
-            None => match first_named(self.globals.as_slice(), name, mark) {
+            None => match first_named(self.globals.as_slice(), name) {
                 Some(index) => Some(&self.globals[index]),
                 None => None,
             },
@@ -100,30 +95,29 @@ impl<'p> Machine<'p> {
 
     /// Stores a number where the name's variable has that place.
     #[tactic(auto, using(crate::proofs::Variables::places))]
-    pub fn set(&mut self, name: &Name, at: u64, number: i64)
-        ensures { self.new ≡ store name.now (changed (look self.old name.now) at number) self.old }
+    pub fn set(&mut self, name: usize, at: u64, number: i64)
+        ensures { self.new ≡ store (number_name name) (changed (look self.old (number_name name)) at number) self.old }
     {
-        let mark = mark_of(name);
-        if let Some(index) = last_named(self.frame.as_slice(), name, mark) {
+        if let Some(index) = last_named(self.frame.as_slice(), name) {
             self.frame[index].set(at, number);
-        } else if let Some(index) = first_named(self.globals.as_slice(), name, mark) {
+        } else if let Some(index) = first_named(self.globals.as_slice(), name) {
             self.globals[index].set(at, number);
         }
     }
 
     /// A new innermost variable.
-    pub fn push(&mut self, name: &'p Name, cell: Cell) -> Result<(), AllocError>
+    pub fn push(&mut self, name: usize, cell: Cell) -> Result<(), AllocError>
         requires { IsCell cell }
-        ensures { OnOk result (self.new ≡ push name.now (cell_of cell) self.old) }
+        ensures { OnOk result (self.new ≡ push (number_name name) (cell_of cell) self.old) }
     {
         self.frame.push(Variable::new(name, cell))?;
         Ok(())
     }
 
     /// A new file-scope variable behind the others.
-    pub fn add_global(&mut self, name: &'p Name, cell: Cell) -> Result<(), AllocError>
+    pub fn add_global(&mut self, name: usize, cell: Cell) -> Result<(), AllocError>
         requires { IsCell cell }
-        ensures { OnOk result (self.new ≡ with_globals (self.old.globals ++ record { name = name.now; cell = cell_of cell } ∷ []) self.old) }
+        ensures { OnOk result (self.new ≡ with_globals (self.old.globals ++ record { name = number_name name; cell = cell_of cell } ∷ []) self.old) }
     {
         self.globals.push(Variable::new(name, cell))?;
         Ok(())
@@ -149,8 +143,8 @@ impl<'p> Machine<'p> {
     }
 
     /// Puts a frame in place of the running function's, whose variables it gives back.
-    pub fn swap_frame(&mut self, frame: Vec<Variable<'p>>) -> Vec<Variable<'p>>
-        ensures frame { self.new ≡ with_frame (reverse frame.entry.items) self.old }
+    pub fn swap_frame(&mut self, frame: Vec<Variable>) -> Vec<Variable>
+        ensures frame { self.new ≡ with_frame (reverse frame.items) self.old }
         ensures was { reverse result.items ≡ self.old.frame }
     {
         mem::replace(&mut self.frame, frame)

@@ -1,13 +1,12 @@
 //! What is known at a place of a program: the defines and the functions that stand before it.
 
 ghost use Rattle.std.specs.Prelude.{◌≡◌, map};
-ghost use Rattle.c_tree.specs.BareOf.{bare_top};
+ghost use Rattle.resolved_names.specs.Numbered.{number_name, numbered_top};
 ghost use Rattle.c_meaning.specs.Runnable.{RunnableTops};
 ghost use Rattle.c_meaning.specs.Scopes.{env_of, constant_in};
 
 use c_tree::constant::{TypedValue, defined_as};
-use c_tree::name::Name;
-use c_tree::tree::Item;
+use resolved_names::tree::Item;
 
 /// The items before a place, and the bound on the turns of each execution of a loop.
 #[derive(Clone, Copy, Debug)]
@@ -18,9 +17,9 @@ pub struct Scope<'p> {
 
 /// What the last define of a name stands for.
 #[tactic(auto, using(crate::proofs::Scopes::scopes))]
-pub fn define_named(scope: &Scope, name: &Name) -> Option<TypedValue>
-    requires { RunnableTops (map bare_top scope.now.items.now) }
-    ensures { result ≡ constant_in (env_of scope.now).defines name.now }
+pub fn define_named(scope: &Scope, name: usize) -> Option<TypedValue>
+    requires { RunnableTops (map numbered_top scope.now.items.now) }
+    ensures { result ≡ constant_in (env_of scope.now).defines (number_name name) }
 {
     let mut left = scope.items.len();
     'each: while left > 0 {
@@ -33,7 +32,7 @@ pub fn define_named(scope: &Scope, name: &Name) -> Option<TypedValue>
             ..
         } = &scope.items[left]
         {
-            if name == defined {
+            if name == *defined {
                 return Some(defined_as(*negative, *value, *ty));
             }
         }

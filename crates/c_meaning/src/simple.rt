@@ -2,9 +2,9 @@
 
 ghost use Rattle.std.specs.Prelude.{◌≡◌, map, IfOk, IfErr, Ok, if◌then◌else◌};
 ghost use Rattle.std.specs.Option.{option_copied, option_map};
-ghost use Rattle.c_tree.specs.BareOf.{bare_top, bare_expr, bare_exprs, bare_target};
+ghost use Rattle.resolved_names.specs.Numbered.{number_name, numbered_top, numbered_expr, numbered_exprs, numbered_target};
 ghost use Rattle.c_tree.specs.Arithmetic as numbers;
-ghost use Rattle.c_tree.specs.WellFormed.{WellFormedExpr, WellFormedExprs, WellFormedOption, WellFormedTarget};
+ghost use Rattle.c_meaning.specs.Held.{HeldExpr, HeldExprs, HeldOption, HeldTarget};
 ghost use Rattle.c_semantics.specs.Meaning.State.{look};
 ghost use Rattle.c_semantics.specs.Meaning.Expressions as values;
 ghost use Rattle.c_semantics.specs.Meaning.SimpleStatements as meaning;
@@ -19,23 +19,23 @@ use crate::run::{End, RunFault};
 use crate::scope::Scope;
 use crate::variable::{Cell, Variable};
 use c_tree::arithmetic::{Trap, apply_bin, common, convert};
-use c_tree::name::Name;
-use c_tree::tree::{BinOp, Expr, SetOp, Target, Ty};
+use c_tree::tree::{BinOp, SetOp, Ty};
+use resolved_names::tree::{Expr, Target};
 
 /// Whether a test holds: its value isn't 0.
 pub fn holds(scope: &Scope, m: &Machine, e: &Expr) -> Result<bool, Trap>
-    requires known { RunnableTops (map bare_top scope.now.items.now) }
-    requires well_formed { WellFormedExpr (bare_expr e.now) }
-    ensures { result ≡ meaning.holds_in (env_of scope.now).defines (bare_expr e.now) m.now }
+    requires known { RunnableTops (map numbered_top scope.now.items.now) }
+    requires well_formed { HeldExpr (numbered_expr e.now) }
+    ensures { result ≡ meaning.holds_in (env_of scope.now).defines (numbered_expr e.now) m.now }
 {
     Ok(eval(scope, m, e)?.value != 0)
 }
 
 /// Whether the test of a `for` head holds; a missing one does.
 pub fn head_holds(scope: &Scope, m: &Machine, e: Option<&Expr>) -> Result<bool, Trap>
-    requires known { RunnableTops (map bare_top scope.now.items.now) }
-    requires well_formed { WellFormedOption (option_map bare_expr (option_copied e)) }
-    ensures { result ≡ meaning.head_test (env_of scope.now).defines (option_map bare_expr (option_copied e.entry)) m.now }
+    requires known { RunnableTops (map numbered_top scope.now.items.now) }
+    requires well_formed { HeldOption (option_map numbered_expr (option_copied e)) }
+    ensures { result ≡ meaning.head_test (env_of scope.now).defines (option_map numbered_expr (option_copied e.entry)) m.now }
 {
     match e {
         None => Ok(true),
@@ -45,34 +45,34 @@ pub fn head_holds(scope: &Scope, m: &Machine, e: Option<&Expr>) -> Result<bool, 
 
 /// A number after its conversion to a type.
 fn converted(scope: &Scope, m: &Machine, ty: Ty, e: &Expr) -> Result<i64, Trap>
-    requires known { RunnableTops (map bare_top scope.now.items.now) }
-    requires well_formed { WellFormedExpr (bare_expr e.now) }
-    ensures { result ≡ numbers.and_then (values.eval (env_of scope.now).defines m.now (bare_expr e.now)) (numbers.convert ty) }
+    requires known { RunnableTops (map numbered_top scope.now.items.now) }
+    requires well_formed { HeldExpr (numbered_expr e.now) }
+    ensures { result ≡ numbers.and_then (values.eval (env_of scope.now).defines m.now (numbered_expr e.now)) (numbers.convert ty) }
 {
     convert(ty, eval(scope, m, e)?.value)
 }
 
 /// The number that `print` writes.
 pub fn printed(scope: &Scope, m: &Machine, e: &Expr) -> Result<i64, Trap>
-    requires known { RunnableTops (map bare_top scope.now.items.now) }
-    requires well_formed { WellFormedExpr (bare_expr e.now) }
-    ensures { result ≡ numbers.and_then (values.eval (env_of scope.now).defines m.now (bare_expr e.now)) (numbers.convert Ty.Long) }
+    requires known { RunnableTops (map numbered_top scope.now.items.now) }
+    requires well_formed { HeldExpr (numbered_expr e.now) }
+    ensures { result ≡ numbers.and_then (values.eval (env_of scope.now).defines m.now (numbered_expr e.now)) (numbers.convert Ty.Long) }
 {
     converted(scope, m, Ty::Long, e)
 }
 
 /// A declaration (C11 6.7.9). The only fault is want of memory.
 #[tactic(auto, using(crate::proofs::Assignments::declarations))]
-pub fn declare<'p>(
+pub fn declare(
     scope: &Scope,
-    m: &mut Machine<'p>,
+    m: &mut Machine,
     ty: Ty,
-    name: &'p Name,
+    name: usize,
     init: &Option<Expr>,
 ) -> Result<End, RunFault>
-    requires known { RunnableTops (map bare_top scope.now.items.now) }
-    requires well_formed { WellFormedOption (option_map bare_expr init.now) }
-    ensures run { IfOk result (λ end. meaning.declared (env_of scope.now).defines ty name.now (option_map bare_expr init.now) m.old ≡ record { state = m.new; end = end_of end }) }
+    requires known { RunnableTops (map numbered_top scope.now.items.now) }
+    requires well_formed { HeldOption (option_map numbered_expr init.now) }
+    ensures run { IfOk result (λ end. meaning.declared (env_of scope.now).defines ty (number_name name) (option_map numbered_expr init.now) m.old ≡ record { state = m.new; end = end_of end }) }
     ensures turns { IfOk result (λ _. m.new.turns ≡ m.old.turns) }
     ensures fault { IfErr result (λ fault. fault ≡ RunFault.Memory) }
 {
@@ -101,7 +101,7 @@ fn type_in(variable: Option<&Variable>) -> Ty
     }
 }
 
-fn dims_of<'a, 'p>(variable: Option<&'a Variable<'p>>) -> &'a [u64]
+fn dims_of(variable: Option<&Variable>) -> &[u64]
     ensures dims { result.now ≡ values.dims_of (cell_in (option_copied variable.entry)) }
     ensures fit { FitFrom 1 result.now }
 {
@@ -129,9 +129,9 @@ fn updated(
     op: BinOp,
     e: &Expr,
 ) -> Result<i64, Trap>
-    requires known { RunnableTops (map bare_top scope.now.items.now) }
-    requires well_formed { WellFormedExpr (bare_expr e.now) }
-    ensures { result ≡ numbers.and_then (meaning.old_value (cell_in (option_copied variable.entry)) at) (λ x. numbers.and_then (values.eval (env_of scope.now).defines m.now (bare_expr e.now)) (λ y. numbers.apply_bin op (numbers.common (meaning.type_in (cell_in (option_copied variable.entry))) (values.type_of (env_of scope.now).defines m.now (bare_expr e.now))) x y)) }
+    requires known { RunnableTops (map numbered_top scope.now.items.now) }
+    requires well_formed { HeldExpr (numbered_expr e.now) }
+    ensures { result ≡ numbers.and_then (meaning.old_value (cell_in (option_copied variable.entry)) at) (λ x. numbers.and_then (values.eval (env_of scope.now).defines m.now (numbered_expr e.now)) (λ y. numbers.apply_bin op (numbers.common (meaning.type_in (cell_in (option_copied variable.entry))) (values.type_of (env_of scope.now).defines m.now (numbered_expr e.now))) x y)) }
 {
     let x = old_number(variable, at)?;
     let y = eval(scope, m, e)?;
@@ -147,9 +147,9 @@ fn new_number(
     op: SetOp,
     e: &Expr,
 ) -> Result<i64, Trap>
-    requires known { RunnableTops (map bare_top scope.now.items.now) }
-    requires well_formed { WellFormedExpr (bare_expr e.now) }
-    ensures { result ≡ meaning.new_value op (cell_in (option_copied variable.entry)) at (values.type_of (env_of scope.now).defines m.now (bare_expr e.now)) (values.eval (env_of scope.now).defines m.now (bare_expr e.now)) }
+    requires known { RunnableTops (map numbered_top scope.now.items.now) }
+    requires well_formed { HeldExpr (numbered_expr e.now) }
+    ensures { result ≡ meaning.new_value op (cell_in (option_copied variable.entry)) at (values.type_of (env_of scope.now).defines m.now (numbered_expr e.now)) (values.eval (env_of scope.now).defines m.now (numbered_expr e.now)) }
 {
     match op {
         SetOp::Plain => Ok(eval(scope, m, e)?.value),
@@ -176,12 +176,12 @@ fn assigned(
     op: SetOp,
     e: &Expr,
 ) -> Result<Stored, Trap>
-    requires known { RunnableTops (map bare_top scope.now.items.now) }
-    requires target { WellFormedTarget (bare_target target.now) }
-    requires well_formed { WellFormedExpr (bare_expr e.now) }
-    ensures { let c = look m.now target.now.name in result ≡ numbers.and_then (values.place (env_of scope.now).defines m.now (values.dims_of c) 0 (bare_exprs target.now.subs)) (λ k. numbers.and_then (numbers.and_then (meaning.new_value op c k (values.type_of (env_of scope.now).defines m.now (bare_expr e.now)) (values.eval (env_of scope.now).defines m.now (bare_expr e.now))) (numbers.convert (meaning.type_in c))) (λ z. Ok (record { at = k; number = z }))) }
+    requires known { RunnableTops (map numbered_top scope.now.items.now) }
+    requires target { HeldTarget (numbered_target target.now) }
+    requires well_formed { HeldExpr (numbered_expr e.now) }
+    ensures { let c = look m.now (number_name target.now.name) in result ≡ numbers.and_then (values.place (env_of scope.now).defines m.now (values.dims_of c) 0 (numbered_exprs target.now.subs)) (λ k. numbers.and_then (numbers.and_then (meaning.new_value op c k (values.type_of (env_of scope.now).defines m.now (numbered_expr e.now)) (values.eval (env_of scope.now).defines m.now (numbered_expr e.now))) (numbers.convert (meaning.type_in c))) (λ z. Ok (record { at = k; number = z }))) }
 {
-    let variable = m.look(&target.name);
+    let variable = m.look(target.name);
     let at = place(scope, m, dims_of(variable), target.subs.as_slice())?;
     let number = new_number(scope, m, variable, at, op, e)?;
     Ok(Stored {
@@ -193,15 +193,15 @@ fn assigned(
 /// An assignment (C11 6.5.16): the subscripts, the value, its conversion, the store.
 #[tactic(auto, using(crate::proofs::Assignments::assignments))]
 pub fn set_to(scope: &Scope, m: &mut Machine, target: &Target, op: SetOp, e: &Expr) -> End
-    requires known { RunnableTops (map bare_top scope.now.items.now) }
-    requires target { WellFormedTarget (bare_target target.now) }
-    requires well_formed { WellFormedExpr (bare_expr e.now) }
-    ensures run { meaning.set_to (env_of scope.now).defines (bare_target target.now) op (bare_expr e.now) m.old ≡ record { state = m.new; end = end_of result } }
+    requires known { RunnableTops (map numbered_top scope.now.items.now) }
+    requires target { HeldTarget (numbered_target target.now) }
+    requires well_formed { HeldExpr (numbered_expr e.now) }
+    ensures run { meaning.set_to (env_of scope.now).defines (numbered_target target.now) op (numbered_expr e.now) m.old ≡ record { state = m.new; end = end_of result } }
     ensures turns { m.new.turns ≡ m.old.turns }
 {
     match assigned(scope, m, target, op, e) {
         Ok(stored) => {
-            m.set(&target.name, stored.at, stored.number);
+            m.set(target.name, stored.at, stored.number);
             End::Next
         }
         Err(trap) => End::Trapped(trap),
@@ -210,15 +210,14 @@ pub fn set_to(scope: &Scope, m: &mut Machine, target: &Target, op: SetOp, e: &Ex
 
 /// `++` where `up` holds, else `--` (C11 6.5.3.1).
 pub fn step_by(scope: &Scope, m: &mut Machine, target: &Target, up: bool) -> End
-    requires known { RunnableTops (map bare_top scope.now.items.now) }
-    requires target { WellFormedTarget (bare_target target.now) }
-    ensures run { meaning.step_by (env_of scope.now).defines (bare_target target.now) up m.old ≡ record { state = m.new; end = end_of result } }
+    requires known { RunnableTops (map numbered_top scope.now.items.now) }
+    requires target { HeldTarget (numbered_target target.now) }
+    ensures run { meaning.step_by (env_of scope.now).defines (numbered_target target.now) up m.old ≡ record { state = m.new; end = end_of result } }
     ensures turns { m.new.turns ≡ m.old.turns }
 {
     let one = Expr::Num {
         value: 1,
         ty: Ty::Int,
-        span: target.span,
     };
     let op = if up { SetOp::Add } else { SetOp::Sub };
     set_to(scope, m, target, op, &one)
@@ -226,31 +225,31 @@ pub fn step_by(scope: &Scope, m: &mut Machine, target: &Target, up: bool) -> End
 
 /// The place of a target.
 fn target_place(scope: &Scope, m: &Machine, target: &Target) -> Result<u64, Trap>
-    requires known { RunnableTops (map bare_top scope.now.items.now) }
-    requires target { WellFormedTarget (bare_target target.now) }
-    ensures { result ≡ meaning.target_place (env_of scope.now).defines m.now (look m.now target.now.name) (bare_exprs target.now.subs) }
+    requires known { RunnableTops (map numbered_top scope.now.items.now) }
+    requires target { HeldTarget (numbered_target target.now) }
+    ensures { result ≡ meaning.target_place (env_of scope.now).defines m.now (look m.now (number_name target.now.name)) (numbered_exprs target.now.subs) }
 {
     place(
         scope,
         m,
-        dims_of(m.look(&target.name)),
+        dims_of(m.look(target.name)),
         target.subs.as_slice(),
     )
 }
 
 /// The type of a target.
 fn target_type(m: &Machine, target: &Target) -> Ty
-    ensures { result ≡ meaning.type_in (look m.now target.now.name) }
+    ensures { result ≡ meaning.type_in (look m.now (number_name target.now.name)) }
 {
-    type_in(m.look(&target.name))
+    type_in(m.look(target.name))
 }
 
 /// `x = input()`: the number is taken after the subscripts, and is taken also where it doesn't fit.
 #[tactic(auto, using(crate::proofs::Assignments::inputs))]
 pub fn take_input(scope: &Scope, m: &mut Machine, target: &Target) -> End
-    requires known { RunnableTops (map bare_top scope.now.items.now) }
-    requires target { WellFormedTarget (bare_target target.now) }
-    ensures run { meaning.take_input (env_of scope.now).defines (bare_target target.now) m.old ≡ record { state = m.new; end = end_of result } }
+    requires known { RunnableTops (map numbered_top scope.now.items.now) }
+    requires target { HeldTarget (numbered_target target.now) }
+    ensures run { meaning.take_input (env_of scope.now).defines (numbered_target target.now) m.old ≡ record { state = m.new; end = end_of result } }
     ensures turns { m.new.turns ≡ m.old.turns }
 {
     let at = match target_place(scope, m, target) {
@@ -263,7 +262,7 @@ pub fn take_input(scope: &Scope, m: &mut Machine, target: &Target) -> End
     };
     match convert(target_type(m, target), number) {
         Ok(number) => {
-            m.set(&target.name, at, number);
+            m.set(target.name, at, number);
             End::Next
         }
         Err(trap) => End::Trapped(trap),

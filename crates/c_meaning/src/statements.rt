@@ -2,8 +2,8 @@
 
 ghost use Rattle.std.specs.Prelude.{◌≡◌, map};
 ghost use Rattle.std.specs.Option.{option_copied, option_map};
-ghost use Rattle.c_tree.specs.BareOf.{bare_top, bare_expr, bare_exprs, bare_stmt, bare_stmts, bare_head, maybe_stmt};
-ghost use Rattle.c_tree.specs.WellFormed.{WellFormedExpr};
+ghost use Rattle.resolved_names.specs.Numbered.{number_name, numbered_top, numbered_expr, numbered_exprs, numbered_stmt, numbered_stmts, numbered_head, maybe_stmt};
+ghost use Rattle.c_meaning.specs.Held.{HeldExpr};
 ghost use Rattle.c_tree.specs.Bare as bare;
 ghost use Rattle.c_semantics.specs.Meaning.Runs as runs;
 ghost use Rattle.c_semantics.specs.Meaning.SimpleStatements as simple;
@@ -24,15 +24,14 @@ use crate::scope::Scope;
 use crate::simple::{declare, head_holds, holds, printed, set_to, step_by, take_input};
 use c_tree::arithmetic::Trap;
 use c_tree::boxed::Boxed;
-use c_tree::name::Name;
-use c_tree::tree::{Expr, ExprList, ForHead, Stmt, StmtList};
 use outside_io::traits::Sink;
+use resolved_names::tree::{Expr, ExprList, ForHead, Stmt, StmtList};
 
 /// `print`: a line for the value as a `long long`.
 fn print<K: Sink>(scope: &Scope, m: &Machine, out: &mut K, e: &Expr) -> Result<End, RunFault>
-    requires known { RunnableTops (map bare_top scope.now.items.now) }
-    requires well_formed { WellFormedExpr (bare_expr e.now) }
-    ensures { Ran (simple.print_value (env_of scope.now).defines (bare_expr e.now)) m.now (sunk (K.held out.old) (K.faults out.old)) m.now (sunk (K.held out.new) (K.faults out.new)) result }
+    requires known { RunnableTops (map numbered_top scope.now.items.now) }
+    requires well_formed { HeldExpr (numbered_expr e.now) }
+    ensures { Ran (simple.print_value (env_of scope.now).defines (numbered_expr e.now)) m.now (sunk (K.held out.old) (K.faults out.old)) m.now (sunk (K.held out.new) (K.faults out.new)) result }
 {
     match printed(scope, m, e) {
         Err(trap) => Ok(End::Trapped(trap)),
@@ -71,12 +70,12 @@ pub fn run_stmt<'p, K: Sink>(
     out: &mut K,
     stmt: &'p Stmt,
 ) -> Result<End, RunFault>
-    requires known { RunnableTops (map bare_top scope.now.items.now) }
-    requires runnable { RunnableStmt (bare_stmt stmt.now) }
-    ensures { Ran (meaning.exec scope.now.bound (env_of scope.now) (bare_stmt stmt.now)) m.old (sunk (K.held out.old) (K.faults out.old)) m.new (sunk (K.held out.new) (K.faults out.new)) result }
+    requires known { RunnableTops (map numbered_top scope.now.items.now) }
+    requires runnable { RunnableStmt (numbered_stmt stmt.now) }
+    ensures { Ran (meaning.exec scope.now.bound (env_of scope.now) (numbered_stmt stmt.now)) m.old (sunk (K.held out.old) (K.faults out.old)) m.new (sunk (K.held out.new) (K.faults out.new)) result }
 {
     match stmt {
-        Stmt::Decl { ty, name, init, .. } => declare(scope, m, *ty, name, init),
+        Stmt::Decl { ty, name, init, .. } => declare(scope, m, *ty, *name, init),
         Stmt::Set {
             target,
             op,
@@ -107,11 +106,10 @@ pub fn run_stmt<'p, K: Sink>(
         }
         Stmt::For { head, body, .. } => run_for(scope, m, out, head, body),
         Stmt::Block { body, .. } => run_block(scope, m, out, body),
-        Stmt::Break { .. } => Ok(End::Break),
-        Stmt::Continue { .. } => Ok(End::Continue),
-        Stmt::Empty { .. } => Ok(End::Next),
-        Stmt::Omp { .. } => unreachable!("a program that holds no directive"),
-        Stmt::Call { name, args, .. } => call(scope, m, out, name, args),
+        Stmt::Break => Ok(End::Break),
+        Stmt::Continue => Ok(End::Continue),
+        Stmt::Empty => Ok(End::Next),
+        Stmt::Call { name, args, .. } => call(scope, m, out, *name, args),
     }
 }
 
@@ -123,9 +121,9 @@ pub fn run_stmts<'p, K: Sink>(
     out: &mut K,
     stmts: &'p [Stmt],
 ) -> Result<End, RunFault>
-    requires known { RunnableTops (map bare_top scope.now.items.now) }
-    requires runnable { RunnableStmts (bare_stmts stmts.now) }
-    ensures { Ran (meaning.exec_all scope.now.bound (env_of scope.now) (bare_stmts stmts.now)) m.old (sunk (K.held out.old) (K.faults out.old)) m.new (sunk (K.held out.new) (K.faults out.new)) result }
+    requires known { RunnableTops (map numbered_top scope.now.items.now) }
+    requires runnable { RunnableStmts (numbered_stmts stmts.now) }
+    ensures { Ran (meaning.exec_all scope.now.bound (env_of scope.now) (numbered_stmts stmts.now)) m.old (sunk (K.held out.old) (K.faults out.old)) m.new (sunk (K.held out.new) (K.faults out.new)) result }
 {
     'each: for stmt in stmts {
         match run_stmt(scope, m, out, stmt)? {
@@ -144,9 +142,9 @@ pub fn run_block<'p, K: Sink>(
     out: &mut K,
     body: &'p StmtList,
 ) -> Result<End, RunFault>
-    requires known { RunnableTops (map bare_top scope.now.items.now) }
-    requires runnable { RunnableStmts (bare_stmts body.now) }
-    ensures { Ran (runs.in_block (meaning.exec_all scope.now.bound (env_of scope.now) (bare_stmts body.now))) m.old (sunk (K.held out.old) (K.faults out.old)) m.new (sunk (K.held out.new) (K.faults out.new)) result }
+    requires known { RunnableTops (map numbered_top scope.now.items.now) }
+    requires runnable { RunnableStmts (numbered_stmts body.now) }
+    ensures { Ran (runs.in_block (meaning.exec_all scope.now.bound (env_of scope.now) (numbered_stmts body.now))) m.old (sunk (K.held out.old) (K.faults out.old)) m.new (sunk (K.held out.new) (K.faults out.new)) result }
 {
     let len = m.frame_len();
     let end = run_stmts(scope, m, out, body.as_slice())?;
@@ -164,9 +162,9 @@ fn run_if<'p, K: Sink>(
     yes: &'p StmtList,
     no: &'p Option<StmtList>,
 ) -> Result<End, RunFault>
-    requires known { RunnableTops (map bare_top scope.now.items.now) }
-    requires runnable { RunnableStmt (if_of (bare_expr test.now) (bare_stmts yes.now) (option_map bare_stmts no.now)) }
-    ensures { Ran (meaning.exec scope.now.bound (env_of scope.now) (if_of (bare_expr test.now) (bare_stmts yes.now) (option_map bare_stmts no.now))) m.old (sunk (K.held out.old) (K.faults out.old)) m.new (sunk (K.held out.new) (K.faults out.new)) result }
+    requires known { RunnableTops (map numbered_top scope.now.items.now) }
+    requires runnable { RunnableStmt (if_of (numbered_expr test.now) (numbered_stmts yes.now) (option_map numbered_stmts no.now)) }
+    ensures { Ran (meaning.exec scope.now.bound (env_of scope.now) (if_of (numbered_expr test.now) (numbered_stmts yes.now) (option_map numbered_stmts no.now))) m.old (sunk (K.held out.old) (K.faults out.old)) m.new (sunk (K.held out.new) (K.faults out.new)) result }
 {
     match holds(scope, m, test) {
         Err(trap) => Ok(End::Trapped(trap)),
@@ -187,9 +185,9 @@ fn run_for<'p, K: Sink>(
     head: &'p ForHead,
     body: &'p StmtList,
 ) -> Result<End, RunFault>
-    requires known { RunnableTops (map bare_top scope.now.items.now) }
-    requires runnable { RunnableStmt (bare.for_ (bare_head head.now) (bare_stmts body.now)) }
-    ensures { Ran (meaning.exec scope.now.bound (env_of scope.now) (bare.for_ (bare_head head.now) (bare_stmts body.now))) m.old (sunk (K.held out.old) (K.faults out.old)) m.new (sunk (K.held out.new) (K.faults out.new)) result }
+    requires known { RunnableTops (map numbered_top scope.now.items.now) }
+    requires runnable { RunnableStmt (bare.for_ (numbered_head head.now) (numbered_stmts body.now)) }
+    ensures { Ran (meaning.exec scope.now.bound (env_of scope.now) (bare.for_ (numbered_head head.now) (numbered_stmts body.now))) m.old (sunk (K.held out.old) (K.faults out.old)) m.new (sunk (K.held out.new) (K.faults out.new)) result }
 {
     let len = m.frame_len();
     let repeated = Loop {
@@ -212,10 +210,10 @@ fn run_head<'p, K: Sink>(
     init: Option<&'p Stmt>,
     repeated: &Loop<'p>,
 ) -> Result<End, RunFault>
-    requires known { RunnableTops (map bare_top scope.now.items.now) }
-    requires begin { RunnablePart (maybe_stmt (option_map bare_stmt (option_copied init))) }
+    requires known { RunnableTops (map numbered_top scope.now.items.now) }
+    requires begin { RunnablePart (maybe_stmt (option_map numbered_stmt (option_copied init))) }
     requires runnable { RunnableLoop repeated.now }
-    ensures { Ran (head_run scope.now.bound (env_of scope.now) (maybe_stmt (option_map bare_stmt (option_copied init.entry))) repeated.now) m.old (sunk (K.held out.old) (K.faults out.old)) m.new (sunk (K.held out.new) (K.faults out.new)) result }
+    ensures { Ran (head_run scope.now.bound (env_of scope.now) (maybe_stmt (option_map numbered_stmt (option_copied init.entry))) repeated.now) m.old (sunk (K.held out.old) (K.faults out.old)) m.new (sunk (K.held out.new) (K.faults out.new)) result }
 {
     match run_part(scope, m, out, init)? {
         End::Next => Ok(loop_end(repeat(scope, m, out, repeated, scope.bound)?)),
@@ -231,9 +229,9 @@ fn run_part<'p, K: Sink>(
     out: &mut K,
     part: Option<&'p Stmt>,
 ) -> Result<End, RunFault>
-    requires known { RunnableTops (map bare_top scope.now.items.now) }
-    requires runnable { RunnablePart (maybe_stmt (option_map bare_stmt (option_copied part))) }
-    ensures { Ran (meaning.exec_maybe scope.now.bound (env_of scope.now) (maybe_stmt (option_map bare_stmt (option_copied part.entry)))) m.old (sunk (K.held out.old) (K.faults out.old)) m.new (sunk (K.held out.new) (K.faults out.new)) result }
+    requires known { RunnableTops (map numbered_top scope.now.items.now) }
+    requires runnable { RunnablePart (maybe_stmt (option_map numbered_stmt (option_copied part))) }
+    ensures { Ran (meaning.exec_maybe scope.now.bound (env_of scope.now) (maybe_stmt (option_map numbered_stmt (option_copied part.entry)))) m.old (sunk (K.held out.old) (K.faults out.old)) m.new (sunk (K.held out.new) (K.faults out.new)) result }
 {
     match part {
         None => Ok(End::Next),
@@ -250,7 +248,7 @@ fn repeat<'p, K: Sink>(
     repeated: &Loop<'p>,
     turns: u64,
 ) -> Result<End, RunFault>
-    requires known { RunnableTops (map bare_top scope.now.items.now) }
+    requires known { RunnableTops (map numbered_top scope.now.items.now) }
     requires runnable { RunnableLoop repeated.now }
     ensures { Ran (runs.repeat turns (simple.head_test (env_of scope.now).defines (test_of repeated.now)) (turn_in scope.now.bound (env_of scope.now) repeated.now)) m.old (sunk (K.held out.old) (K.faults out.old)) m.new (sunk (K.held out.new) (K.faults out.new)) result }
 {
@@ -280,7 +278,7 @@ fn repeat_after<'p, K: Sink>(
     out: &mut K,
     repeated: &Loop<'p>,
 ) -> Result<End, RunFault>
-    requires known { RunnableTops (map bare_top scope.now.items.now) }
+    requires known { RunnableTops (map numbered_top scope.now.items.now) }
     requires runnable { RunnableLoop repeated.now }
     ensures { Ran (runs.repeat_after scope.now.bound (simple.head_test (env_of scope.now).defines (test_of repeated.now)) (turn_in scope.now.bound (env_of scope.now) repeated.now)) m.old (sunk (K.held out.old) (K.faults out.old)) m.new (sunk (K.held out.new) (K.faults out.new)) result }
 {
@@ -301,7 +299,7 @@ fn run_turn<'p, K: Sink>(
     out: &mut K,
     repeated: &Loop<'p>,
 ) -> Result<End, RunFault>
-    requires known { RunnableTops (map bare_top scope.now.items.now) }
+    requires known { RunnableTops (map numbered_top scope.now.items.now) }
     requires runnable { RunnableLoop repeated.now }
     ensures { Ran (turn_in scope.now.bound (env_of scope.now) repeated.now) m.old (sunk (K.held out.old) (K.faults out.old)) m.new (sunk (K.held out.new) (K.faults out.new)) result }
 {
@@ -321,12 +319,12 @@ fn call<'p, K: Sink>(
     scope: &Scope<'p>,
     m: &mut Machine<'p>,
     out: &mut K,
-    name: &Name,
+    name: usize,
     args: &ExprList,
 ) -> Result<End, RunFault>
-    requires known { RunnableTops (map bare_top scope.now.items.now) }
-    requires runnable { RunnableStmt (bare.call name.now (bare_exprs args.now)) }
-    ensures { Ran (meaning.exec scope.now.bound (env_of scope.now) (bare.call name.now (bare_exprs args.now))) m.old (sunk (K.held out.old) (K.faults out.old)) m.new (sunk (K.held out.new) (K.faults out.new)) result }
+    requires known { RunnableTops (map numbered_top scope.now.items.now) }
+    requires runnable { RunnableStmt (bare.call (number_name name) (numbered_exprs args.now)) }
+    ensures { Ran (meaning.exec scope.now.bound (env_of scope.now) (bare.call (number_name name) (numbered_exprs args.now))) m.old (sunk (K.held out.old) (K.faults out.old)) m.new (sunk (K.held out.new) (K.faults out.new)) result }
 {
     let Some(function) = function_named(scope, name) else {
         return Ok(End::Trapped(Trap::Unset));

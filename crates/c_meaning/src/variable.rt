@@ -4,11 +4,9 @@ ghost use Rattle.std.specs.Prelude.{◌≡◌, ℕ, ◌<◌, Some, bytes_eq, sli
 ghost use Rattle.c_semantics.specs.Meaning.Expressions.{cell_type, dims_of, elements_of, or_unset};
 ghost use Rattle.c_semantics.specs.Meaning.SimpleStatements.{changed, old_value};
 ghost use Rattle.c_meaning.specs.Variables.{cell_of, number_of, IsCell, FitFrom};
-ghost use Rattle.c_meaning.specs.Marks.{mark_of};
+ghost use Rattle.resolved_names.specs.Numbered.{number_name};
 
-use crate::mark::{Mark, mark_of};
 use c_tree::arithmetic::Trap;
-use c_tree::name::Name;
 use c_tree::tree::Ty;
 use std::marker::Model;
 
@@ -26,45 +24,39 @@ pub enum Cell {
     },
 }
 
-/// A variable, which contracts see as that of a state. The program has its name; most other names have another mark.
+/// A variable, which contracts see as that of a state.
 #[derive(Debug, Drop)]
-pub struct Variable<'p> {
-    name: &'p Name,
-    mark: Mark,
+pub struct Variable {
+    name: usize,
     cell: Cell,
 }
 
-impl<'p> Model for Variable<'p> {
-    ghost use Rattle.std.specs.Prelude.{◌≡◌};
+impl Model for Variable {
     ghost use Rattle.c_semantics.specs.Meaning.State.{Var};
-    ghost use Rattle.c_meaning.specs.Marks.{mark_of};
+    ghost use Rattle.resolved_names.specs.Numbered.{number_name};
     ghost use Rattle.c_meaning.specs.Variables.{cell_of, IsCell};
 
     ghost Value = { Var };
 
-    ghost view = { λ v. record { name = v.name.now; cell = cell_of v.cell } };
+    ghost view = { λ v. record { name = number_name v.name; cell = cell_of v.cell } };
 
-    ghost invariant = { λ v. (v.mark ≡ mark_of v.name.now) × IsCell v.cell };
+    ghost invariant = { λ v. IsCell v.cell };
 }
 
-impl<'p> Variable<'p> {
-    pub fn new(name: &'p Name, cell: Cell) -> Variable<'p>
+impl Variable {
+    pub fn new(name: usize, cell: Cell) -> Variable
         requires { IsCell cell }
-        ensures { result ≡ record { name = name.now; cell = cell_of cell } }
+        ensures { result ≡ record { name = number_name name; cell = cell_of cell } }
     {
-        Variable {
-            name,
-            mark: mark_of(name),
-            cell,
-        }
+        Variable { name, cell }
     }
 
-    /// Whether this is the variable's name. Names are compared only where their marks are the same.
-    pub fn is_named(&self, name: &Name, mark: Mark) -> bool
-        requires { mark ≡ mark_of name.now }
-        ensures { result ≡ bytes_eq name.now self.now.name }
+    /// Whether this is the variable's name.
+    #[tactic(auto, using(crate::proofs::Numbers::same_number))]
+    pub fn is_named(&self, name: usize) -> bool
+        ensures { result ≡ bytes_eq (number_name name) self.now.name }
     {
-        mark == self.mark && *name == *self.name
+        name == self.name
     }
 
     pub fn ty(&self) -> Ty

@@ -2,13 +2,13 @@
 use Rattle.std.proofs.Common.{◌≡◌, ◌∙◌, sym, ap, subst, ◌+◌, ◌*◌, ◌<◌, ◌≤◌, List, drop, Ok, ℤ, w64, rules, arith}
 use Rattle.std.proofs.lemmas.Int.{to_z-of_z}
 use Rattle.std.specs.Prelude.{slice_index_or, slice_get}
-use Rattle.c_tree.specs.WellFormed.{WellFormedExpr}
+use Rattle.c_meaning.specs.Held.{HeldExpr}
 use mir.Val.{SFits}
 use denote.Param.Weighed.{most, at_most}
-use Rattle.c_tree.proofs.tree.Expr.TheLaws.{the_size}
+use Rattle.resolved_names.proofs.tree.Expr.TheLaws.{the_size}
 use Rattle.c_tree.specs.Arithmetic.{and_then}
-use Rattle.c_tree.specs.BareOf.{bare_expr, bare_exprs}
-use Rattle.c_tree.specs.declared.tree.Expr.{Expr}
+use Rattle.resolved_names.specs.Numbered.{number_name, numbered_expr, numbered_exprs}
+use Rattle.resolved_names.specs.declared.tree.Expr.{Expr}
 use Rattle.c_semantics.specs.Meaning.State.{look}
 use Rattle.c_semantics.specs.Meaning.Expressions.{eval, place, dims_of, elements_of, or_unset, in_dim}
 use Rattle.c_meaning.specs.Scopes.{env_of}
@@ -21,10 +21,10 @@ pub eval-returns-in-Item-clause-value : goal.eval-returns-in-Item-clause-value
 eval-returns-in-Item-clause-value t c =
     let ds = (env_of c.args.scope.now).defines in
     let s = c.args.m.now in
-    let x = c.in-Item.name in
+    let x = number_name c.in-Item.name in
     c.element.ensures.value
-    ∙ (ap (λ (es : List Expr). and_then (place ds s (dims_of (look s x)) 0 (bare_exprs es)) (λ k. or_unset (slice_get (elements_of (look s x)) k))) c.as_slice.ensures
-    ∙ sym (ap (eval ds s) (bare_item c.args.e.now x c.in-Item.subs c.in-Item.span c.in-Item.is)))
+    ∙ (ap (λ (es : List Expr). and_then (place ds s (dims_of (look s x)) 0 (numbered_exprs es)) (λ k. or_unset (slice_get (elements_of (look s x)) k))) c.as_slice.ensures
+    ∙ sym (ap (eval ds s) (bare_item c.args.e.now c.in-Item.name c.in-Item.subs c.in-Item.is)))
 
 pub place-returns-then-index-dims : goal.place-returns-then-index-dims
 place-returns-then-index-dims t c =
@@ -64,6 +64,6 @@ place-each-preserved t c =
 
 pub place-eval-requires : goal.place-eval-requires
 place-eval-requires t c =
-    let formed : WellFormedExpr (bare_expr c.index-subs-index.result) = well_formed_at c.args.subs.now c.each.index c.index-subs-index.result c.each-test.true c.index-subs-index.is c.requires.well_formed in
+    let formed : HeldExpr (numbered_expr c.index-subs-index.result) = well_formed_at c.args.subs.now c.each.index c.index-subs-index.result c.each-test.true c.index-subs-index.is c.requires.well_formed in
     let less : the_size c.index-subs-index.result ≤ most the_size c.args.subs.now = subst (λ (e : Expr). the_size e ≤ most the_size c.args.subs.now) (sym c.index-subs-index.is) (at_most the_size c.args.subs.now c.each.index c.index-subs-index.result c.each-test.true) in
     (omega arith, (c.requires.known, formed))

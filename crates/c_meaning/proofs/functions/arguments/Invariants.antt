@@ -1,5 +1,5 @@
 use Rattle.std.proofs.Common.{◌≡◌, [], drop, reverse, map}
-use Rattle.c_tree.specs.BareOf.{bare_param, bare_exprs}
+use Rattle.resolved_names.specs.Numbered.{numbered_param, numbered_exprs}
 use Rattle.c_semantics.specs.Meaning.SimpleStatements.{arguments}
 use Rattle.c_meaning.specs.Scopes.{env_of}
 use Rattle.c_meaning.proofs.functions.arguments.Given as goal
@@ -7,5 +7,5 @@ use Rattle.c_meaning.proofs.functions.arguments.Given as goal
 -- The parameters that are left are put before the frame so far.
 abbrev pub invariant-each : goal.invariant-each
 invariant-each l =
-    arguments (env_of l.scope).defines l.m (map bare_param (drop l.index l.params)) (bare_exprs (drop l.index l.args)) (reverse l.frame.items)
-    ≡ arguments (env_of l.scope).defines l.m (map bare_param l.params) (bare_exprs l.args) []
+    arguments (env_of l.scope).defines l.m (map numbered_param (drop l.index l.params)) (numbered_exprs (drop l.index l.args)) (reverse l.frame.items)
+    ≡ arguments (env_of l.scope).defines l.m (map numbered_param l.params) (numbered_exprs l.args) []

@@ -1,45 +1,47 @@
 -- The last item that is left is the function, or the others have it.
 use Rattle.std.proofs.Common.{◌≡◌, ◌∙◌, sym, ap, refl, subst, ◌-◌, Some, List, Option, true, false, rules, arith}
 use Rattle.std.specs.Prelude.{bytes_eq}
-use Rattle.c_tree.specs.BareOf.{bare_stmts}
-use Rattle.c_tree.specs.declared.tree.Param.{Param}
-use Rattle.c_tree.specs.declared.tree.Stmt.{Stmt}
+use Rattle.resolved_names.specs.Numbered.{numbered_stmts}
+use Rattle.resolved_names.specs.declared.tree.Param.{Param}
+use Rattle.resolved_names.specs.declared.tree.Stmt.{Stmt}
 use Rattle.c_semantics.specs.Meaning.SimpleStatements.{Function}
 use Rattle.c_meaning.specs.Runnable.{RunnableStmts}
 use Rattle.c_meaning.specs.Sizes.{stmts_size}
+use Rattle.resolved_names.specs.Numbered.{number_name}
+use Rattle.c_meaning.proofs.Numbers.{number_eq}
 use Rattle.c_meaning.proofs.Lists.{good_before}
 use Rattle.c_meaning.proofs.Calls.{function_at, function_found, function_passed, function_other, function_body, function_smaller}
 use Rattle.c_meaning.proofs.functions.function_named.Goals as goal
 
-pub returns-then-eq-clause-found : goal.returns-then-eq-clause-found
-returns-then-eq-clause-found c =
+pub returns-then-name-defined-clause-found : goal.returns-then-name-defined-clause-found
+returns-then-name-defined-clause-found c =
     let s = c.args.scope.now in
     let xs = s.items.now in
     let left = c.each.left in
     let y = c.index-scope-left.result in
     let d = c.in-Function in
-    let hit : bytes_eq c.args.name.now d.defined ≡ true = search rules in
+    let hit : bytes_eq (number_name c.args.name) (number_name d.defined) ≡ true = number_eq c.args.name d.defined ∙ search rules in
     let params = c.as_slice.ensures in
-    let body = c.as_slice-then-eq.ensures in
+    let body = c.as_slice-then-name-defined.ensures in
     record {
       means = sym c.each.invariant.among
-          ∙ (function_found s.bound xs left y c.each-test.true c.each.invariant.within c.index-scope-left.is c.args.name.now d.defined d.name_span d.params d.body d.span (c.index-scope-left.is ∙ d.is) hit
+          ∙ (function_found s.bound xs left y c.each-test.true c.each.invariant.within c.index-scope-left.is (number_name c.args.name) d.defined d.params d.body (c.index-scope-left.is ∙ d.is) hit
           ∙ (ap {B = Option Function} (λ (ps : List Param). Some (function_at s.bound xs left y c.each-test.true c.each.invariant.within c.index-scope-left.is d.defined ps d.body)) (sym params)
           ∙ ap {B = Option Function} (λ (b : List Stmt). Some (function_at s.bound xs left y c.each-test.true c.each.invariant.within c.index-scope-left.is d.defined c.as_slice.result.now b)) (sym body)));
       bound = refl;
       known = good_before xs (left - 1) c.requires;
-      body = subst (λ (b : List Stmt). RunnableStmts (bare_stmts b)) (sym body) (function_body s.bound xs left y c.each-test.true c.each.invariant.within c.index-scope-left.is d.defined d.name_span d.params d.body d.span (c.index-scope-left.is ∙ d.is) c.requires);
-      before = omega (arith, function_smaller s.bound xs left y c.each-test.true c.each.invariant.within c.index-scope-left.is d.defined d.name_span d.params d.body d.span (c.index-scope-left.is ∙ d.is), ap (λ (b : List Stmt). stmts_size (bare_stmts b)) body);
+      body = subst (λ (b : List Stmt). RunnableStmts (numbered_stmts b)) (sym body) (function_body s.bound xs left y c.each-test.true c.each.invariant.within c.index-scope-left.is d.defined d.params d.body (c.index-scope-left.is ∙ d.is) c.requires);
+      before = omega (arith, function_smaller s.bound xs left y c.each-test.true c.each.invariant.within c.index-scope-left.is d.defined d.params d.body (c.index-scope-left.is ∙ d.is), ap (λ (b : List Stmt). stmts_size (numbered_stmts b)) body);
     }
 
-pub each-preserved-else-eq : goal.each-preserved-else-eq
-each-preserved-else-eq c =
+pub each-preserved-else-name-defined : goal.each-preserved-else-name-defined
+each-preserved-else-name-defined c =
     let s = c.args.scope.now in
     let d = c.in-Function in
-    let miss : bytes_eq c.args.name.now d.defined ≡ false = search rules in
+    let miss : bytes_eq (number_name c.args.name) (number_name d.defined) ≡ false = number_eq c.args.name d.defined ∙ search rules in
     record {
       within = omega arith;
-      among = sym (function_passed s.bound s.items.now c.each.left c.index-scope-left.result c.each-test.true c.each.invariant.within c.index-scope-left.is c.args.name.now d.defined d.name_span d.params d.body d.span (c.index-scope-left.is ∙ d.is) miss) ∙ c.each.invariant.among;
+      among = sym (function_passed s.bound s.items.now c.each.left c.index-scope-left.result c.each-test.true c.each.invariant.within c.index-scope-left.is (number_name c.args.name) d.defined d.params d.body (c.index-scope-left.is ∙ d.is) miss) ∙ c.each.invariant.among;
     }
 
 pub each-preserved : goal.each-preserved
@@ -47,5 +49,5 @@ each-preserved c =
     let s = c.args.scope.now in
     record {
       within = omega arith;
-      among = sym (function_other s.bound s.items.now c.each.left c.index-scope-left.result c.each-test.true c.each.invariant.within c.index-scope-left.is c.args.name.now (λ d at ps body sp e. c.in_default.not-Function d at ps body sp (sym c.index-scope-left.is ∙ e))) ∙ c.each.invariant.among;
+      among = sym (function_other s.bound s.items.now c.each.left c.index-scope-left.result c.each-test.true c.each.invariant.within c.index-scope-left.is (number_name c.args.name) (λ d ps body e. c.in_default.not-Function d ps body (sym c.index-scope-left.is ∙ e))) ∙ c.each.invariant.among;
     }

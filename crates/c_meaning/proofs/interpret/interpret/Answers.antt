@@ -1,84 +1,34 @@
--- The whole run is that of the items from the start.
-use Rattle.std.proofs.Common.{◌≡◌, ◌∙◌, sym, ap, subst, List, map, Result, Ok, Err}
-use Rattle.std.proofs.lemmas.Result.{err_from_is_err_and, IfOk-from_err}
-use Rattle.std.specs.Prelude.{OnErr}
-use Rattle.outside_io.specs.Bytes.{GainsPrefix}
-use Rattle.c_tree.specs.BareOf.{bare_program, bare_top}
-use Rattle.c_tree.specs.declared.tree.Item.{Item}
-use Rattle.c_tree.specs.declared.tree.Program.{Program}
-use Rattle.c_semantics.specs.Meaning.Programs.{outcome}
-use Rattle.c_meaning.specs.declared.run.Run.{Run}
-use Rattle.c_meaning.specs.declared.run.RunFault.{RunFault}
-use Rattle.c_meaning.specs.declared.run.RunFault.TheVariants.{WriteFault}
-use Rattle.c_meaning.specs.Plain.{is_plain}
-use Rattle.c_meaning.specs.Runnable.{RunnableTops}
-use Rattle.c_meaning.specs.Running.{lines_text, sunk}
-use Rattle.c_meaning.proofs.Items.{from_start, all_lines, end_comes, turns_come, some_lines}
-use Rattle.c_meaning.proofs.RunnableParts.{runnable_tops}
+-- The program over numbers runs as the program does.
+use Rattle.std.proofs.Common.{◌≡◌, subst, ℕ, List, ℤ}
+use Rattle.std.specs.Prelude.{IfOk, OnOk, OnErr}
+use Rattle.outside_io.specs.Bytes.{Gains, GainsPrefix}
+use Rattle.c_semantics.specs.Meaning.Programs.{Finish}
+use Rattle.c_meaning.specs.Ends.{finish_of}
+use Rattle.c_meaning.specs.Running.{lines_text}
+use Rattle.c_meaning.specs.States.{counted}
+use Rattle.c_meaning.proofs.Renamed.{slice_runnable, slice_lines, slice_end, slice_turns}
 use Rattle.c_meaning.proofs.interpret.interpret.Goals as goal
 
-pub run_items-requires : goal.run_items-requires
-run_items-requires g c =
-    let checked = c.program-program.ensures in
-    let plain = ap (λ (q : Program). is_plain (bare_program q)) checked.program ∙ c.requires in
-    subst (λ (xs : List Item). RunnableTops (map bare_top xs)) (sym c.as_slice.ensures) (runnable_tops (bare_program c.program-program.result.now) checked.checked.well_formed.0 plain)
-
-pub returns-in_err-end-clause-lines : goal.returns-in_err-end-clause-lines
-returns-in_err-end-clause-lines g c =
-    IfOk-from_err c.from_residual.result _ c.from_residual.ensures.0
-
-pub returns-in_err-end-clause-end : goal.returns-in_err-end-clause-end
-returns-in_err-end-clause-end g c =
-    IfOk-from_err c.from_residual.result _ c.from_residual.ensures.0
-
-pub returns-in_err-end-clause-turns : goal.returns-in_err-end-clause-turns
-returns-in_err-end-clause-turns g c =
-    IfOk-from_err c.from_residual.result _ c.from_residual.ensures.0
-
-pub returns-in_err-end-clause-part : goal.returns-in_err-end-clause-part
-returns-in_err-end-clause-part g c =
-    let same = ap (λ (xs : List Item). map bare_top xs) (c.as_slice.ensures ∙ ap (λ (q : Program). q.items) c.program-program.ensures.program) in
-    let p = bare_program c.args.checked.now in
-    let ran = from_start c.args.bound p c.args.input.now (sunk (g.K.Sink.held c.args.out.now) (g.K.Sink.faults c.args.out.now)) (sunk (g.K.Sink.held c.run_items.new.out) (g.K.Sink.faults c.run_items.new.out)) c.run_items.new.m c.as_slice.result.now c.new-m.result (Err c.in_err-end.field-0.0) same c.new-m.ensures c.in_err-end.ensures in
-    let q = err_from_is_err_and c.from_residual.result c.from_residual.ensures.1 in
-    let is = q.1 ∙ ap Err q.2 in
-    subst (λ (r : Result Run RunFault). OnErr r (GainsPrefix (g.K.Sink.held c.args.out.now) (g.K.Sink.held c.run_items.new.out) (lines_text (outcome c.args.bound p c.args.input.now).lines))) (sym is) (some_lines c.args.bound p c.args.input.now (sunk (g.K.Sink.held c.args.out.now) (g.K.Sink.faults c.args.out.now)) (sunk (g.K.Sink.held c.run_items.new.out) (g.K.Sink.faults c.run_items.new.out)) c.run_items.new.m c.in_err-end.field-0.0 ran)
-
-pub returns-in_err-end-clause-failed : goal.returns-in_err-end-clause-failed
-returns-in_err-end-clause-failed g c =
-    let q = err_from_is_err_and c.from_residual.result c.from_residual.ensures.1 in
-    let is = q.1 ∙ ap Err q.2 in
-    λ w. (let fault : c.in_err-end.field-0.0 ≡ WriteFault = cc in c.in_err-end.ensures.failed (ap Err fault))
-
-pub returns-in_err-end-clause-faults : goal.returns-in_err-end-clause-faults
-returns-in_err-end-clause-faults g c =
-    c.run_items.ensures.faults
+pub run_numbered-requires : goal.run_numbered-requires
+run_numbered-requires g c =
+    slice_runnable c.args.checked.now c.program.result.now c.program.ensures.program c.program.ensures.checked c.requires c.as_slice.result.now c.as_slice.ensures c.in-Ok.items c.as_slice-2.result.now c.as_slice-2.ensures c.in-Ok.ensures
 
 pub returns-clause-lines : goal.returns-clause-lines
 returns-clause-lines g c =
-    let same = ap (λ (xs : List Item). map bare_top xs) (c.as_slice.ensures ∙ ap (λ (q : Program). q.items) c.program-program.ensures.program) in
-    let p = bare_program c.args.checked.now in
-    let ran = from_start c.args.bound p c.args.input.now (sunk (g.K.Sink.held c.args.out.now) (g.K.Sink.faults c.args.out.now)) (sunk (g.K.Sink.held c.run_items.new.out) (g.K.Sink.faults c.run_items.new.out)) c.run_items.new.m c.as_slice.result.now c.new-m.result (Ok c.in_ok-end.end) same c.new-m.ensures c.in_ok-end.ensures in
-    all_lines c.args.bound p c.args.input.now (sunk (g.K.Sink.held c.args.out.now) (g.K.Sink.faults c.args.out.now)) (sunk (g.K.Sink.held c.run_items.new.out) (g.K.Sink.faults c.run_items.new.out)) c.run_items.new.m c.in_ok-end.end ran
+    let same = slice_lines c.args.checked.now c.program.result.now c.program.ensures.program c.program.ensures.checked c.requires c.as_slice.result.now c.as_slice.ensures c.in-Ok.items c.as_slice-2.result.now c.as_slice-2.ensures c.in-Ok.ensures c.args.bound c.args.input.now in
+    subst (λ (zs : List ℤ). OnOk c.run_numbered.result (Gains (g.K.Sink.held c.args.out.now) (g.K.Sink.held c.run_numbered.new.out) (lines_text zs))) same c.run_numbered.ensures.lines
 
 pub returns-clause-end : goal.returns-clause-end
 returns-clause-end g c =
-    let same = ap (λ (xs : List Item). map bare_top xs) (c.as_slice.ensures ∙ ap (λ (q : Program). q.items) c.program-program.ensures.program) in
-    let p = bare_program c.args.checked.now in
-    let ran = from_start c.args.bound p c.args.input.now (sunk (g.K.Sink.held c.args.out.now) (g.K.Sink.faults c.args.out.now)) (sunk (g.K.Sink.held c.run_items.new.out) (g.K.Sink.faults c.run_items.new.out)) c.run_items.new.m c.as_slice.result.now c.new-m.result (Ok c.in_ok-end.end) same c.new-m.ensures c.in_ok-end.ensures in
-    end_comes c.args.bound p c.args.input.now (sunk (g.K.Sink.held c.args.out.now) (g.K.Sink.faults c.args.out.now)) (sunk (g.K.Sink.held c.run_items.new.out) (g.K.Sink.faults c.run_items.new.out)) c.run_items.new.m c.in_ok-end.end c.finish.result c.finish.ensures ran
+    let same = slice_end c.args.checked.now c.program.result.now c.program.ensures.program c.program.ensures.checked c.requires c.as_slice.result.now c.as_slice.ensures c.in-Ok.items c.as_slice-2.result.now c.as_slice-2.ensures c.in-Ok.ensures c.args.bound c.args.input.now in
+    subst (λ (e : Finish). IfOk c.run_numbered.result (λ run. finish_of run.end ≡ e)) same c.run_numbered.ensures.end
 
 pub returns-clause-turns : goal.returns-clause-turns
 returns-clause-turns g c =
-    let same = ap (λ (xs : List Item). map bare_top xs) (c.as_slice.ensures ∙ ap (λ (q : Program). q.items) c.program-program.ensures.program) in
-    let p = bare_program c.args.checked.now in
-    let ran = from_start c.args.bound p c.args.input.now (sunk (g.K.Sink.held c.args.out.now) (g.K.Sink.faults c.args.out.now)) (sunk (g.K.Sink.held c.run_items.new.out) (g.K.Sink.faults c.run_items.new.out)) c.run_items.new.m c.as_slice.result.now c.new-m.result (Ok c.in_ok-end.end) same c.new-m.ensures c.in_ok-end.ensures in
-    c.turns.ensures ∙ turns_come c.args.bound p c.args.input.now (sunk (g.K.Sink.held c.args.out.now) (g.K.Sink.faults c.args.out.now)) (sunk (g.K.Sink.held c.run_items.new.out) (g.K.Sink.faults c.run_items.new.out)) c.run_items.new.m c.in_ok-end.end ran
+    let same = slice_turns c.args.checked.now c.program.result.now c.program.ensures.program c.program.ensures.checked c.requires c.as_slice.result.now c.as_slice.ensures c.in-Ok.items c.as_slice-2.result.now c.as_slice-2.ensures c.in-Ok.ensures c.args.bound c.args.input.now in
+    subst (λ (k : ℕ). IfOk c.run_numbered.result (λ run. run.turns ≡ counted k)) same c.run_numbered.ensures.turns
 
-pub returns-clause-failed : goal.returns-clause-failed
-returns-clause-failed g c =
-    λ w. absurd (cc)
-
-pub returns-clause-faults : goal.returns-clause-faults
-returns-clause-faults g c =
-    c.run_items.ensures.faults
+pub returns-clause-part : goal.returns-clause-part
+returns-clause-part g c =
+    let same = slice_lines c.args.checked.now c.program.result.now c.program.ensures.program c.program.ensures.checked c.requires c.as_slice.result.now c.as_slice.ensures c.in-Ok.items c.as_slice-2.result.now c.as_slice-2.ensures c.in-Ok.ensures c.args.bound c.args.input.now in
+    subst (λ (zs : List ℤ). OnErr c.run_numbered.result (GainsPrefix (g.K.Sink.held c.args.out.now) (g.K.Sink.held c.run_numbered.new.out) (lines_text zs))) same c.run_numbered.ensures.part

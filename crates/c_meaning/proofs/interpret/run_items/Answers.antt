@@ -1,7 +1,7 @@
 -- Each item runs as its meaning does, and `main` is the last that runs.
 use Rattle.std.proofs.Common.{subst}
-use Rattle.c_tree.specs.BareOf.{bare_top}
-use Rattle.c_tree.specs.declared.tree.Item.{Item}
+use Rattle.resolved_names.specs.Numbered.{numbered_top}
+use Rattle.resolved_names.specs.declared.tree.Item.{Item}
 use Rattle.c_meaning.specs.Runnable.{RunnableTop}
 use Rattle.c_meaning.proofs.Items.{item_leads, items_done, items_fail, main_runs}
 use Rattle.c_meaning.proofs.Lists.{good_at, good_before}
@@ -17,12 +17,12 @@ run_block-requires-clause-known g c = good_before c.args.items.now c.each.index 
 pub run_block-requires-clause-runnable : goal.run_block-requires-clause-runnable
 run_block-requires-clause-runnable g c =
     let y = c.index-items-index.result in
-    subst (λ (z : Item). RunnableTop (bare_top z)) c.in-Main.is (good_at c.args.items.now c.each.index y c.each-test.true c.index-items-index.is c.requires)
+    subst (λ (z : Item). RunnableTop (numbered_top z)) c.in-Main.is (good_at c.args.items.now c.each.index y c.each-test.true c.index-items-index.is c.requires)
 
 pub returns-in-Main : goal.returns-in-Main
 returns-in-Main g c =
     let y = c.index-items-index.result in
-    c.each.invariant.follows _ _ _ (main_runs c.args.bound c.args.items.now c.each.index y c.each-test.true c.index-items-index.is c.in-Main.body c.in-Main.span c.in-Main.is c.each.m c.run_block.new.m _ _ _ c.run_block.ensures)
+    c.each.invariant.follows _ _ _ (main_runs c.args.bound c.args.items.now c.each.index y c.each-test.true c.index-items-index.is c.in-Main.body c.in-Main.is c.each.m c.run_block.new.m _ _ _ c.run_block.ensures)
 
 pub begin-requires : goal.begin-requires
 begin-requires g c = record {

@@ -3,6 +3,7 @@ use Rattle.std.proofs.Common.{◌≡◌, ◌∙◌, sym, ap, refl, subst, ℕ, �
 use Rattle.std.proofs.lemmas.Int.{to_z-of_z}
 use Rattle.c_semantics.specs.Meaning.State.{State, Var, look, store, with_frame, with_globals}
 use Rattle.c_semantics.specs.Meaning.SimpleStatements.{changed}
+use Rattle.resolved_names.specs.Numbered.{number_name}
 use Rattle.c_meaning.specs.Machines.{state_of}
 use Rattle.c_meaning.specs.Variables.{first_at}
 use Rattle.c_meaning.proofs.Variables.{set_in_frame, set_in_globals, set_nowhere}
@@ -13,7 +14,7 @@ with_number v k z = record { name = v.name; cell = changed (Some v.cell) k z }
 
 pub returns-in-Some : goal.returns-in-Some
 returns-in-Some c =
-    let x = c.args.name.now in
+    let x = number_name c.args.name in
     let m = c.self.inside in
     let i = c.in-Some.index in
     let found = subst (λ us. i + first_at x (reverse us) + 1 ≡ length us) c.as_slice.ensures.value c.in-Some.ensures.found in
@@ -23,7 +24,7 @@ returns-in-Some c =
 
 pub returns-in-Some-first_named : goal.returns-in-Some-first_named
 returns-in-Some-first_named c =
-    let x = c.args.name.now in
+    let x = number_name c.args.name in
     let m = c.self.inside in
     let i = c.in-Some-first_named.index in
     let none = subst (λ us. first_at x (reverse us) ≡ length us) c.as_slice.ensures.value c.in_default.ensures.none in
@@ -34,7 +35,7 @@ returns-in-Some-first_named c =
 
 pub returns-in_default-first_named : goal.returns-in_default-first_named
 returns-in_default-first_named c =
-    let x = c.args.name.now in
+    let x = number_name c.args.name in
     let m = c.self.inside in
     let none = subst (λ us. first_at x (reverse us) ≡ length us) c.as_slice.ensures.value c.in_default.ensures.none in
     let nor = subst (λ us. first_at x us ≡ length us) c.as_slice-in_default.ensures.value c.in_default-first_named.ensures.none in

@@ -1,0 +1,5 @@
+pub mod Values
+pub mod Runs
+pub mod Programs
+pub mod Lists
+pub mod Numbers

@@ -1,0 +1,5 @@
+pub mod Renaming
+pub mod RenamedRuns
+pub mod Numbered
+pub mod Numbering
+pub mod Resolved

@@ -1,0 +1,7 @@
+//! Programs over numbers in place of names: the tree, how a program becomes one, and that renamed programs run alike.
+#![tactic(auto)]
+
+pub mod laws;
+pub mod names;
+pub mod resolve;
+pub mod tree;
