@@ -1,0 +1,5 @@
+//! The rules of the heads of affected loops, and of what stands in their bodies.
+#![tactic(auto)]
+
+pub mod breaking;
+pub mod form_rules;
