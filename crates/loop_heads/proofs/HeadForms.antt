@@ -1,6 +1,7 @@
 -- The form of a head, by its parts.
-use Rattle.std.proofs.Common.{◌≡◌, ◌∙◌, refl, sym, ap, ℕ, List, Bool, true, false, Option, Some, None}
+use Rattle.std.proofs.Common.{◌≡◌, ◌∙◌, refl, sym, ap, ℕ, List, true, false, Option, Some, None}
 use Rattle.std.specs.Prelude.{is_none}
+use Rattle.std.proofs.lemmas.Bool.{false≢true}
 use Rattle.std.specs.Option.{option_map}
 use Rattle.c_tree.specs.Bare as b
 use Rattle.c_tree.specs.BareOf as bare
@@ -14,7 +15,7 @@ use Rattle.c_tree.proofs.Forgotten.Stmts.{bare_head_is}
 use Rattle.c_semantics.specs.Meaning.Expressions.{Define}
 use Rattle.c_semantics.specs.Loops.CanonicalForm as form
 use Rattle.c_semantics.specs.Loops.CanonicalForm.{Canonical, Init, Test, canonical}
-use Rattle.canonical_nests.specs.LoopRules.BreachSets.{BreachSet, least, breach, breach_if}
+use Rattle.canonical_nests.specs.LoopRules.BreachSets.{BreachSet, least, breach_if}
 use Rattle.canonical_nests.specs.LoopRules.Heads.{form_breaches, init_breaches, test_breaches, step_breaches}
 use Rattle.canonical_nests.specs.declared.rules.LoopRule.TheVariants.{L2, L3, L4}
 
@@ -65,10 +66,10 @@ module _ (ds : List Define) (h : ForHead) where
 
   untested : (o : Option Test) (c : Option Canonical) (at next_at : ℕ) → is_none o ≡ true → test_breaches o at c next_at ≡ breach_if true L3 at
   untested None c at next_at e = refl
-  untested (Some t) c at next_at e = absurd (cc)
+  untested (Some t) c at next_at e = absurd (false≢true e)
 
   tested : (o : Option Test) (c : Option Canonical) (at next_at : ℕ) → is_none o ≡ false → test_breaches o at c next_at ≡ step_breaches c next_at
-  tested None c at next_at e = absurd (cc)
+  tested None c at next_at e = absurd (false≢true (sym e))
   tested (Some t) c at next_at e = refl
 
   pub no_test : (i : Init) → form.init begin ≡ Some i → is_none (form.test i.var end) ≡ true
@@ -78,5 +79,9 @@ module _ (ds : List Define) (h : ForHead) where
   pub step_left : (i : Init) → form.init begin ≡ Some i → is_none (form.test i.var end) ≡ false
       → least (form_breaches ds (placed_head h)) ≡ least (breach_if (is_none (canonical ds (bare_head h))) L4 (out-ForHead h).step_at)
   step_left i e f = ap least (some_init i e ∙ tested (form.test i.var end) (canonical ds (bare_head h)) (out-ForHead h).test_at (out-ForHead h).step_at f)
+
+pub none_of_map : {A B : Type 0} (f : A → B) (o : Option A) → is_none (option_map f o) ≡ is_none o
+none_of_map f None = refl
+none_of_map f (Some x) = refl
 
 pub ruleset forms = (no_init, no_test, step_left)

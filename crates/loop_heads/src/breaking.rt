@@ -17,12 +17,10 @@ fn stmt_breach(stmt: &Stmt) -> Option<LoopBreach>
 {
     match stmt {
         Stmt::Break { span } => breach_if(true, LoopRule::L9, span.start),
-        Stmt::If { yes, no: None, .. } => break_breach(yes.as_slice()),
-        Stmt::If {
-            yes,
-            no: Some(no),
-            ..
-        } => lesser(break_breach(yes.as_slice()), break_breach(no.as_slice())),
+        Stmt::If { yes, no, .. } => match no {
+            None => break_breach(yes.as_slice()),
+            Some(no) => lesser(break_breach(yes.as_slice()), break_breach(no.as_slice())),
+        },
         Stmt::Block { body, .. } | Stmt::Omp { body, .. } => break_breach(body.as_slice()),
         Stmt::Decl { .. }
         | Stmt::Set { .. }

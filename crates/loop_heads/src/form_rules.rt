@@ -37,9 +37,17 @@ fn has_no_test(name: &Name, test: &Option<Expr>) -> bool
     }
 }
 
+#[tactic(auto, using(crate::proofs::HeadForms::none_of_map))]
+fn is_not_canonical(scope: &Scope, head: &ForHead) -> bool
+    requires { WellFormedHead (bare_head head.now) }
+    ensures { result ≡ is_none (form.canonical scope.now.defines (bare_head head.now)) }
+{
+    canonical(scope, head).is_none()
+}
+
 /// The breach of a head: of L2 where its first part isn't canonical, else of L3 where its test isn't, else of L4 where
 /// its increment isn't or its step doesn't fit. `None` exactly where the head is canonical.
-#[tactic(auto, using(crate::proofs::HeadForms::forms))]
+#[tactic(auto, using(crate::proofs::HeadForms::no_init))]
 pub fn form_breach(scope: &Scope, head: &ForHead) -> Option<LoopBreach>
     requires { WellFormedHead (bare_head head.now) }
     ensures { result ≡ least (rules.form_breaches scope.now.defines (placed_head head.now)) }
@@ -50,11 +58,7 @@ pub fn form_breach(scope: &Scope, head: &ForHead) -> Option<LoopBreach>
             if has_no_test(init.var, &head.test) {
                 return breach_if(true, LoopRule::L3, head.test_at);
             }
-            breach_if(
-                canonical(scope, head).is_none(),
-                LoopRule::L4,
-                head.step_at,
-            )
+            breach_if(is_not_canonical(scope, head), LoopRule::L4, head.step_at)
         }
     }
 }
