@@ -1,3 +1,5 @@
 pub mod Nodes
+pub mod Heads
 pub mod Breaks
 pub mod HeadForms
+pub mod Assignments

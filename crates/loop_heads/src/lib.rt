@@ -1,5 +1,6 @@
 //! The rules of the heads of affected loops, and of what stands in their bodies.
 #![tactic(auto)]
 
+pub mod assigning;
 pub mod breaking;
 pub mod form_rules;
