@@ -3,3 +3,5 @@ pub mod Heads
 pub mod Breaks
 pub mod HeadForms
 pub mod Assignments
+pub mod NameSets
+pub mod Known

@@ -72,7 +72,10 @@ fn stmt_breach(var: &Name, hidden: bool, stmt: &Stmt) -> Option<LoopBreach>
         Stmt::Do { body, .. } => stmts_breach(var, hidden, body.as_slice()),
         Stmt::For { head, body, .. } => {
             let here = head_breach(var, hidden, head);
-            lesser(here, stmts_breach(var, head_hides(var, hidden, head), body.as_slice()))
+            lesser(
+                here,
+                stmts_breach(var, head_hides(var, hidden, head), body.as_slice()),
+            )
         }
         Stmt::Block { body, .. } => stmts_breach(var, hidden, body.as_slice()),
         Stmt::Omp { body, .. } => stmts_breach(var, hidden, body.as_slice()),

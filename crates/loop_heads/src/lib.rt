@@ -4,3 +4,5 @@
 pub mod assigning;
 pub mod breaking;
 pub mod form_rules;
+pub mod functions;
+pub mod names;
