@@ -5,3 +5,4 @@ pub mod HeadForms
 pub mod Assignments
 pub mod NameSets
 pub mod Known
+pub mod Calls

@@ -22,11 +22,11 @@ in_either (y ∷ xs) ys x = by (bytes_eq x y) (in_either xs ys x)
     by true rest = refl
     by false rest = rest
 
-or_nothing : (b : Bool) → (b || false) ≡ b
+pub or_nothing : (b : Bool) → (b || false) ≡ b
 or_nothing true = refl
 or_nothing false = refl
 
-or_joins : (a b c : Bool) → ((a || b) || c) ≡ (a || (b || c))
+pub or_joins : (a b c : Bool) → ((a || b) || c) ≡ (a || (b || c))
 or_joins true b c = refl
 or_joins false b c = refl
 

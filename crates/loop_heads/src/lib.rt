@@ -3,6 +3,7 @@
 
 pub mod assigning;
 pub mod breaking;
+pub mod calling;
 pub mod form_rules;
 pub mod functions;
 pub mod names;
