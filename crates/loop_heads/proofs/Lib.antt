@@ -6,3 +6,5 @@ pub mod Assignments
 pub mod NameSets
 pub mod Known
 pub mod Calls
+pub mod Rounds
+pub mod Bounds

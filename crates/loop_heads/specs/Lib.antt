@@ -1,3 +1,4 @@
 pub mod Assigning
 pub mod Calling
+pub mod Reading
 pub mod Touching

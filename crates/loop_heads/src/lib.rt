@@ -7,3 +7,5 @@ pub mod calling;
 pub mod form_rules;
 pub mod functions;
 pub mod names;
+pub mod reading;
+pub mod round;
