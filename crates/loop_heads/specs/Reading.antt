@@ -46,3 +46,7 @@ module _ (fs : List FunctionAccess) (s : State) (k : Changes) (round : List Name
     pub each_breaches : Exprs → BreachSet
     each_breaches no_exprs = none
     each_breaches (more_exprs e es) = bound_breaches e & each_breaches es
+
+  abbrev pub breaches_if : Option Expr → BreachSet
+  breaches_if None = none
+  breaches_if (Some e) = bound_breaches e

@@ -1,8 +1,9 @@
 //! What the bounds of affected loops read: L6, and L8 of the variables of the loops round them.
 
-ghost use Rattle.std.specs.Prelude.{◌≡◌, is_none, Some};
+ghost use Rattle.std.specs.Prelude.{◌≡◌, is_some, Some};
 ghost use Rattle.std.specs.Option.{option_map};
 ghost use Rattle.c_tree.specs.PlacedOf.{placed_expr, placed_exprs, placed_stmt, placed_head, maybe_stmt};
+ghost use Rattle.canonical_nests.specs.Canonical.{seen_loop};
 ghost use Rattle.canonical_nests.specs.LoopRules.BreachSets.{least};
 ghost use Rattle.canonical_nests.specs.LoopRules.Heads as rules;
 ghost use Rattle.loop_heads.specs.Reading as walks;
@@ -14,21 +15,21 @@ use crate::round::Round;
 use c_tree::boxed::Boxed;
 use c_tree::name::Name;
 use c_tree::tree::{Expr, ForHead, Stmt};
+use canonical_nests::canonical::CanonLoop;
 use canonical_nests::least::{breach_if, lesser};
 use canonical_nests::rules::{LoopBreach, LoopRule};
 use loop_counts::heads::is_read;
 use loop_counts::scope::Scope;
 
-/// A loop at its place in a construct: what is known there, the body of the construct, the loops round this one, and
-/// its variable, which its head may declare.
+/// A canonical loop at its place in a construct: what is known there, the body of the construct, and the loops round this
+/// one.
 #[derive(Clone, Copy)]
 pub struct Place<'a, 'p> {
     pub functions: &'a Functions,
     pub scope: &'a Scope<'p>,
     pub construct: &'a [Stmt],
     pub round: &'a Round<'p>,
-    pub var: &'a Name,
-    pub declares: bool,
+    pub canon: CanonLoop<'a>,
 }
 
 /// Whether a name means a file-scope variable.
@@ -49,10 +50,10 @@ fn is_changed(functions: &Functions, scope: &Scope, construct: &[Stmt], name: &N
 }
 
 fn name_breach(place: &Place, name: &Name, at: u64) -> Option<LoopBreach>
-    ensures { result ≡ least (walks.name_breaches place.now.functions.now place.now.scope.now.state (walks.changes_of place.now.construct.now) place.now.round.now place.now.declares place.now.var.now name.now at) }
+    ensures { result ≡ least (walks.name_breaches place.now.functions.now place.now.scope.now.state (walks.changes_of place.now.construct.now) place.now.round.now (is_some place.now.canon.ty) place.now.canon.var.now name.now at) }
 {
-    let own = place.var == name;
-    if place.declares && own {
+    let own = place.canon.var == name;
+    if place.canon.ty.is_some() && own {
         return breach_if(true, LoopRule::L6, at);
     }
     if place.round.has(name) {
@@ -64,7 +65,7 @@ fn name_breach(place: &Place, name: &Name, at: u64) -> Option<LoopBreach>
 
 #[cycle(bound_breach)]
 fn bound_breach(place: &Place, e: &Expr) -> Option<LoopBreach>
-    ensures { result ≡ least (walks.bound_breaches place.now.functions.now place.now.scope.now.state (walks.changes_of place.now.construct.now) place.now.round.now place.now.declares place.now.var.now (placed_expr e.now)) }
+    ensures { result ≡ least (walks.bound_breaches place.now.functions.now place.now.scope.now.state (walks.changes_of place.now.construct.now) place.now.round.now (is_some place.now.canon.ty) place.now.canon.var.now (placed_expr e.now)) }
 {
     match e {
         Expr::Num { .. } => None,
@@ -93,7 +94,7 @@ fn bound_breach(place: &Place, e: &Expr) -> Option<LoopBreach>
 #[tactic(auto, using(crate::proofs::Bounds::bounds))]
 #[cycle(bound_breach)]
 fn each_breach(place: &Place, es: &[Expr]) -> Option<LoopBreach>
-    ensures { result ≡ least (walks.each_breaches place.now.functions.now place.now.scope.now.state (walks.changes_of place.now.construct.now) place.now.round.now place.now.declares place.now.var.now (placed_exprs es.now)) }
+    ensures { result ≡ least (walks.each_breaches place.now.functions.now place.now.scope.now.state (walks.changes_of place.now.construct.now) place.now.round.now (is_some place.now.canon.ty) place.now.canon.var.now (placed_exprs es.now)) }
 {
     let mut found = None;
     'each: for e in es {
@@ -137,4 +138,24 @@ fn upper_bound<'a>(var: &Name, test: &'a Option<Expr>) -> Option<&'a Expr>
         }
         _ => None,
     }
+}
+
+fn some_breach(place: &Place, bound: Option<&Expr>) -> Option<LoopBreach>
+    ensures { result ≡ least (walks.breaches_if place.now.functions.now place.now.scope.now.state (walks.changes_of place.now.construct.now) place.now.round.now (is_some place.now.canon.ty) place.now.canon.var.now (option_map (λ e. placed_expr e.now) bound.entry)) }
+{
+    match bound {
+        None => None,
+        Some(e) => bound_breach(place, e),
+    }
+}
+
+/// The least breach of L6 and L8 by the bounds of a loop. `None` exactly where there is none.
+pub fn read_breach(place: &Place, head: &ForHead) -> Option<LoopBreach>
+    ensures { result ≡ least (rules.read_breaches place.now.functions.now place.now.scope.now.state (walks.changes_of place.now.construct.now) place.now.round.now (seen_loop place.now.canon) (rules.bound_reads place.now.canon.var.now (placed_head head.now))) }
+{
+    let lower = lower_bound(&head.init);
+    let upper = upper_bound(place.canon.var, &head.test);
+    let first = some_breach(place, lower);
+    let second = some_breach(place, upper);
+    lesser(first, second)
 }
