@@ -4,6 +4,7 @@
 pub mod assigning;
 pub mod breaking;
 pub mod calling;
+pub mod construct;
 pub mod form_rules;
 pub mod functions;
 pub mod names;

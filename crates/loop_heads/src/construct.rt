@@ -1,0 +1,100 @@
+//! The heads of the loops that a construct's directives ask for, and what stands in their bodies.
+
+ghost use Rattle.std.specs.Prelude.{◌≡◌, ◌<◌, [], IfOk, OnOk, Some, None};
+ghost use Rattle.std.specs.Option.{option_map};
+ghost use Rattle.c_tree.specs.BareOf.{bare_directive, bare_stmt, bare_stmts, bare_head, maybe_stmt};
+ghost use Rattle.c_tree.specs.PlacedOf.{placed_directive, placed_stmt, placed_stmts, placed_head};
+ghost use Rattle.c_tree.specs.Forget.{forget_directive};
+ghost use Rattle.c_tree.specs.WellFormed.{WellFormedDirective, WellFormedHead, WellFormedStmt, WellFormedStmts};
+ghost use Rattle.c_semantics.specs.Loops.CanonicalForm as form;
+ghost use Rattle.c_semantics.specs.Loops.Directives as directives;
+ghost use Rattle.c_semantics.specs.Loops.Need as need;
+ghost use Rattle.c_semantics.specs.Structure.Skeleton as skeleton;
+ghost use Rattle.canonical_nests.specs.Canonical.{seen_loop};
+ghost use Rattle.canonical_nests.specs.LoopRules.BreachSets.{least};
+ghost use Rattle.canonical_nests.specs.LoopRules.Heads as rules;
+ghost use Rattle.loop_heads.specs.Constructs as walks;
+ghost use Rattle.loop_heads.specs.Reading.{changes_of};
+
+use crate::assigning::assign_breach;
+use crate::breaking::break_breach;
+use crate::calling::call_breach;
+use crate::form_rules::form_breach;
+use crate::functions::Functions;
+use crate::reading::{Place, is_file_variable, read_breach};
+use crate::round::Round;
+use c_tree::boxed::Boxed;
+use c_tree::tree::{Directive, ForHead, Stmt};
+use canonical_nests::canonical::CanonLoop;
+use canonical_nests::directive_plan::loops_asked_by;
+use canonical_nests::least::lesser;
+use canonical_nests::rules::LoopBreach;
+use loop_counts::heads::canonical;
+use loop_counts::scope::Scope;
+use loop_counts::trip::loop_type;
+use std::alloc::{AllocError, Global};
+
+/// The construct that is looked at: its body, and what is known of functions.
+#[derive(Clone, Copy)]
+struct Within<'p> {
+    alloc: Global,
+    functions: &'p Functions,
+    construct: &'p [Stmt],
+}
+
+/// The least breach of L5 and L28 by the calls in a loop's body, where its variable is a file-scope one.
+fn file_breach(place: &Place, body: &[Stmt]) -> Option<LoopBreach>
+    ensures { result ≡ least (walks.call_breaches_of place.now.functions.now place.now.scope.now.state (seen_loop place.now.canon) (placed_stmts body.now)) }
+{
+    let canon = place.canon;
+    if canon.ty.is_none() && is_file_variable(place.scope, canon.var) {
+        call_breach(place.functions, canon.var, body)
+    } else {
+        None
+    }
+}
+
+/// The least breach of the rules that look at the variable and at the bounds of a canonical head.
+fn loop_breach(place: &Place, head: &ForHead, body: &[Stmt]) -> Option<LoopBreach>
+    ensures { result ≡ least (rules.loop_breaches place.now.functions.now place.now.scope.now.state (changes_of place.now.construct.now) place.now.round.now (placed_head head.now) (placed_stmts body.now) (Some (seen_loop place.now.canon))) }
+{
+    let read = read_breach(place, head);
+    let assigned = assign_breach(place.canon.var, body);
+    let called = file_breach(place, body);
+    lesser(read, lesser(assigned, called))
+}
+
+/// What a well-formed directive asks of its body.
+#[tactic(auto, using(canonical_nests::proofs::HeldTrees::directive_held))]
+fn asked_by(
+    alloc: Global,
+    scope: &Scope,
+    directive: &Directive,
+    wanted: u64,
+) -> Result<u64, AllocError>
+    requires { WellFormedDirective (bare_directive directive.now) }
+    ensures { IfOk result (λ n. n ≡ need.loops_asked (directives.plan_of scope.now.defines (forget_directive (placed_directive directive.now))) wanted) }
+{
+    loops_asked_by(alloc, scope, directive, wanted)
+}
+
+/// Makes the variable visible that the first part of a head declares.
+fn enter_part<'p>(scope: &mut Scope<'p>, part: &'p Option<Boxed<Stmt>>) -> Result<(), AllocError>
+    ensures { OnOk result (scope.new ≡ record scope.old { state = skeleton.scope_in (maybe_stmt (option_map bare_stmt part.now)) scope.old.state }) }
+{
+    match part {
+        None => Ok(()),
+        Some(stmt) => enter(scope, stmt.get()),
+    }
+}
+
+fn enter<'p>(scope: &mut Scope<'p>, stmt: &'p Stmt) -> Result<(), AllocError>
+    ensures { OnOk result (scope.new ≡ record scope.old { state = skeleton.scope_after (bare_stmt stmt.now) scope.old.state }) }
+{
+    match stmt {
+        Stmt::Decl { ty, name, .. } => scope.declare(name, *ty),
+        Stmt::If { no: None, .. } => Ok(()),
+        Stmt::If { no: Some(_), .. } => Ok(()),
+        _ => Ok(()),
+    }
+}
