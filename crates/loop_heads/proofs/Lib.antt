@@ -8,3 +8,4 @@ pub mod Known
 pub mod Calls
 pub mod Rounds
 pub mod Bounds
+pub mod Nests

@@ -17,18 +17,16 @@ use Rattle.canonical_nests.specs.LoopRules.Heads.{Changes, form_breaches, break_
 abbrev pub call_breaches_of : List FunctionAccess → State → Canonical → Stmts → BreachSet
 call_breaches_of fs s c a = if has_file_variable s c then call_breaches fs c.var (calls_in a) else none
 
-module _ (ds : List Define) (fs : List FunctionAccess) (k : Changes) (s : State) (round : List Name) (m : ℕ) where
-  -- what depends on whether the head is canonical: the loop's variable and bounds, and the m loops that are wanted below
-  abbrev pub nest_breaches : Head → Stmts → Option Canonical → BreachSet
-  nest_breaches h a c = loop_breaches fs s k round h a c & stmts_breaches ds fs k (scope_below ds s (init_of h) c) (round_with c round) m a
-
-  abbrev pub for_breaches : Head → Stmts → Option Canonical → BreachSet
-  for_breaches h a c = form_breaches ds h & (break_breaches (breaks_in a) & nest_breaches h a c)
-
--- of a statement of which a directive round it wants m loops, m of at least 1
 module _ (ds : List Define) (fs : List FunctionAccess) (k : Changes) where
+  -- of a loop itself
+  abbrev pub here_breaches : State → List Name → Head → Stmts → Option Canonical → BreachSet
+  here_breaches s round h a c = form_breaches ds h & (break_breaches (breaks_in a) & loop_breaches fs s k round h a c)
+
+  -- of a statement of which a directive round it wants m loops, m of at least 1
   abbrev pub wanted_breaches : State → List Name → ℕ → Stmt → BreachSet
-  wanted_breaches s round m (for_ h a span) = for_breaches ds fs k s round (m - 1) h a (canonical ds (forget_head h))
+  wanted_breaches s round m (for_ h a span) =
+      let c = canonical ds (forget_head h) in
+      here_breaches s round h a c & stmts_breaches ds fs k (scope_below ds s (init_of h) c) (round_with c round) (m - 1) a
   wanted_breaches s round m (block a span) = stmts_breaches ds fs k s round m a
   wanted_breaches s round m (omp d a span) = stmts_breaches ds fs k s round (loops_asked (plan_of ds (forget_directive d)) m) a
   wanted_breaches s round m _ = none

@@ -98,3 +98,75 @@ fn enter<'p>(scope: &mut Scope<'p>, stmt: &'p Stmt) -> Result<(), AllocError>
         _ => Ok(()),
     }
 }
+
+/// The breaches that look at the variable and at the bounds of a canonical head, and then the scope of its body, where
+/// the variable is a private copy.
+#[tactic(auto, using(crate::proofs::Nests::entering))]
+fn enter_canonical<'p>(
+    at: Within<'p>,
+    scope: &mut Scope<'p>,
+    round: &mut Round<'p>,
+    head: &'p ForHead,
+    body: &'p [Stmt],
+    canon: CanonLoop<'p>,
+) -> Result<Option<LoopBreach>, AllocError>
+    ensures breach { IfOk result (λ b. b ≡ least (rules.loop_breaches at.entry.functions.now scope.old.state (changes_of at.entry.construct.now) round.old (placed_head head.now) (placed_stmts body.now) (Some (seen_loop canon.entry)))) }
+    ensures scope { OnOk result (scope.new ≡ record scope.old { state = rules.scope_below scope.old.defines scope.old.state (rules.init_of (placed_head head.now)) (Some (seen_loop canon.entry)) }) }
+    ensures round { OnOk result (round.new ≡ rules.round_with (Some (seen_loop canon.entry)) round.old) }
+{
+    let place = Place {
+        functions: at.functions,
+        scope: &*scope,
+        construct: at.construct,
+        round: &*round,
+        canon,
+    };
+    let here = loop_breach(&place, head, body);
+    let ty = loop_type(scope, &canon);
+    scope.declare(canon.var, ty)?;
+    round.enter(canon.var)?;
+    Ok(here)
+}
+
+/// The same of any head.
+#[tactic(auto, using(crate::proofs::Nests::entering))]
+fn enter_head<'p>(
+    at: Within<'p>,
+    scope: &mut Scope<'p>,
+    round: &mut Round<'p>,
+    head: &'p ForHead,
+    body: &'p [Stmt],
+) -> Result<Option<LoopBreach>, AllocError>
+    requires { WellFormedHead (bare_head head.now) }
+    ensures breach { IfOk result (λ b. b ≡ least (rules.loop_breaches at.entry.functions.now scope.old.state (changes_of at.entry.construct.now) round.old (placed_head head.now) (placed_stmts body.now) (form.canonical scope.old.defines (bare_head head.now)))) }
+    ensures scope { OnOk result (scope.new ≡ record scope.old { state = rules.scope_below scope.old.defines scope.old.state (rules.init_of (placed_head head.now)) (form.canonical scope.old.defines (bare_head head.now)) }) }
+    ensures round { OnOk result (round.new ≡ rules.round_with (form.canonical scope.old.defines (bare_head head.now)) round.old) }
+{
+    match canonical(scope, head) {
+        None => {
+            enter_part(scope, &head.init)?;
+            Ok(None)
+        }
+        Some(canon) => enter_canonical(at, scope, round, head, body, canon),
+    }
+}
+
+/// The breaches of an affected loop itself, and then the scope of its body.
+#[tactic(auto, using(crate::proofs::Nests::entering))]
+fn enter_loop<'p>(
+    at: Within<'p>,
+    scope: &mut Scope<'p>,
+    round: &mut Round<'p>,
+    head: &'p ForHead,
+    body: &'p [Stmt],
+) -> Result<Option<LoopBreach>, AllocError>
+    requires { WellFormedHead (bare_head head.now) }
+    ensures breach { IfOk result (λ b. b ≡ least (walks.here_breaches scope.old.defines at.entry.functions.now (changes_of at.entry.construct.now) scope.old.state round.old (placed_head head.now) (placed_stmts body.now) (form.canonical scope.old.defines (bare_head head.now)))) }
+    ensures scope { OnOk result (scope.new ≡ record scope.old { state = rules.scope_below scope.old.defines scope.old.state (rules.init_of (placed_head head.now)) (form.canonical scope.old.defines (bare_head head.now)) }) }
+    ensures round { OnOk result (round.new ≡ rules.round_with (form.canonical scope.old.defines (bare_head head.now)) round.old) }
+{
+    let form = form_breach(scope, head);
+    let breaks = break_breach(body);
+    let own = enter_head(at, scope, round, head, body)?;
+    Ok(lesser(form, lesser(breaks, own)))
+}
