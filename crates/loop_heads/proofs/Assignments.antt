@@ -3,19 +3,18 @@ use Rattle.std.proofs.Common.{◌≡◌, ◌∙◌, refl, sym, ap, ◌<◌, ◌�
 use Rattle.std.specs.Prelude.{not, ◌&&◌, is_some, bytes_eq, if◌then◌else◌}
 use Rattle.std.specs.Cmp.Lexicographic.{bytes_decides}
 use Rattle.c_tree.specs.Bare.{Name}
-use Rattle.c_tree.specs.Placed.{Target, target, Stmt, decl, set, step, print, input, if_, if_else, while_, do_, for_, block, break_, continue_, empty, omp, call, Stmts, no_stmts, more_stmts, MaybeStmt, no_stmt, a_stmt, Head, head}
+use Rattle.c_tree.specs.Placed.{Target, target, Stmt, decl, set, step, print, input, if_, if_else, while_, do_, for_, block, break_, continue_, empty, omp, call, Stmts, no_stmts, more_stmts, MaybeStmt, no_stmt, a_stmt, head}
 use Rattle.c_tree.specs.PlacedOf.{placed_stmt, placed_stmts}
 use Rattle.c_tree.specs.declared.tree.Stmt.{Stmt as Node}
-use Rattle.c_tree.specs.declared.tree.Span.{Span}
 use Rattle.c_tree.proofs.Walks.{rest_more, rest_none}
 use Rattle.c_semantics.specs.Meaning.FileVariables.{has_name}
 use Rattle.canonical_nests.specs.declared.rules.LoopRule.TheVariants.{L5}
 use Rattle.canonical_nests.specs.declared.rules.LoopBreach.{LoopBreach}
 use Rattle.canonical_nests.specs.LoopRules.Accesses.{PlacedName, unless_hidden, hidden_after, hidden_in, assigned, assigned_in, assigned_in_part, are_named}
-use Rattle.canonical_nests.specs.LoopRules.BreachSets.{BreachSet, none, ◌&◌, breach_if, least, lesser, is_before}
+use Rattle.canonical_nests.specs.LoopRules.BreachSets.{breach_if, least, lesser, is_before}
 use Rattle.canonical_nests.specs.LoopRules.Heads.{assign_breaches}
 use Rattle.canonical_nests.proofs.Order.{lesser_joins, lesser_none}
-use Rattle.loop_heads.specs.Assigning.{target_assigns, hides, part_hides, assigns, head_assigns, all_assigns, part_assigns}
+use Rattle.loop_heads.specs.Assigning.{target_assigns, hides, part_hides, assigns, all_assigns, part_assigns}
 
 one_name : (x y : Name) → bytes_eq x y ≡ true → x ≡ y
 one_name x y h = (bytes_decides x y).0 h

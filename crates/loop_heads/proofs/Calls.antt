@@ -1,5 +1,5 @@
 -- The walks over what statements call find what the list of their calls has.
-use Rattle.std.proofs.Common.{◌≡◌, ◌∙◌, refl, sym, ap, ◌<◌, ◌≤◌, ◌+◌, ℕ, Bool, true, false, List, [], ◌∷◌, ◌++◌, length, drop, slice_index_or, Option, Some, None}
+use Rattle.std.proofs.Common.{◌≡◌, ◌∙◌, refl, sym, ap, ◌<◌, ◌≤◌, ◌+◌, ℕ, Bool, false, List, [], ◌∷◌, ◌++◌, length, drop, slice_index_or, Option, None}
 use Rattle.std.specs.Prelude.{◌||◌}
 use Rattle.c_tree.specs.Bare.{Name}
 use Rattle.c_tree.specs.Placed.{Stmt, decl, set, step, print, input, if_, if_else, while_, do_, for_, block, break_, continue_, empty, omp, call, Stmts, no_stmts, more_stmts}
@@ -13,7 +13,7 @@ use Rattle.canonical_nests.specs.LoopRules.Accesses.{PlacedName, calls, calls_in
 use Rattle.canonical_nests.specs.LoopRules.BreachSets.{least, lesser, breach_if}
 use Rattle.canonical_nests.specs.LoopRules.Heads.{may_assign, may_read, call_breaches, some_may_assign}
 use Rattle.canonical_nests.proofs.Order.{lesser_joins, lesser_none}
-use Rattle.loop_heads.specs.Calling.{one_call, calls_touch, all_calls_touch, calls_assign, all_calls_assign}
+use Rattle.loop_heads.specs.Calling.{calls_touch, all_calls_touch, calls_assign, all_calls_assign}
 use Rattle.loop_heads.proofs.NameSets.{or_joins, or_nothing}
 
 module _ (fs : List FunctionAccess) (x : Name) where

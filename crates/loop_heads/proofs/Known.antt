@@ -1,9 +1,9 @@
 -- What a table of functions knows.
-use Rattle.std.proofs.Common.{◌≡◌, ◌∙◌, refl, sym, ap, ℕ, Bool, true, false, cond, List, [], ◌∷◌, map, Option, Some, None}
+use Rattle.std.proofs.Common.{◌≡◌, refl, Bool, true, false, cond, List, [], ◌∷◌, map, Some}
 use Rattle.std.specs.Prelude.{bytes_eq, if◌then◌else◌}
 use Rattle.std.specs.Map.{lookup}
 use Rattle.c_tree.specs.Bare.{Name}
-use Rattle.c_semantics.specs.Meaning.FileVariables.{Access, FunctionAccess, no_access, access_of}
+use Rattle.c_semantics.specs.Meaning.FileVariables.{Access, access_of}
 use Rattle.loop_heads.specs.Touching.{or_no_access}
 
 pub known_access : (es : List (Name × Access)) (f : Name) → or_no_access (lookup (bytes_eq f) es) ≡ access_of (map (λ e. record { name = e.0; access = e.1 }) es) f

@@ -6,8 +6,8 @@ use Rattle.std.specs.Cmp.Lexicographic.{bytes_decides}
 use Rattle.std.proofs.lemmas.List.{take_more, take_all}
 use Rattle.indexmap.specs.IndexSet.{insert_key}
 use Rattle.c_tree.specs.Bare.{Name}
-use Rattle.c_semantics.specs.Meaning.FileVariables.{has_name, Access, both, no_access}
-use Rattle.loop_heads.specs.Touching.{Grows, Gains}
+use Rattle.c_semantics.specs.Meaning.FileVariables.{has_name}
+use Rattle.loop_heads.specs.Touching.{Grows}
 
 one_name : (x y : Name) → bytes_eq x y ≡ true → x ≡ y
 one_name x y h = (bytes_decides x y).0 h

@@ -22,11 +22,13 @@ module _ (ds : List Define) (fs : List FunctionAccess) (k : Changes) where
   abbrev pub here_breaches : State → List Name → Head → Stmts → Option Canonical → BreachSet
   here_breaches s round h a c = form_breaches ds h & (break_breaches (breaks_in a) & loop_breaches fs s k round h a c)
 
+  -- of a loop and of m loops in its body
+  abbrev pub for_breaches : State → List Name → ℕ → Head → Stmts → Option Canonical → BreachSet
+  for_breaches s round m h a c = here_breaches s round h a c & stmts_breaches ds fs k (scope_below ds s (init_of h) c) (round_with c round) m a
+
   -- of a statement of which a directive round it wants m loops, m of at least 1
   abbrev pub wanted_breaches : State → List Name → ℕ → Stmt → BreachSet
-  wanted_breaches s round m (for_ h a span) =
-      let c = canonical ds (forget_head h) in
-      here_breaches s round h a c & stmts_breaches ds fs k (scope_below ds s (init_of h) c) (round_with c round) (m - 1) a
+  wanted_breaches s round m (for_ h a span) = for_breaches s round (m - 1) h a (canonical ds (forget_head h))
   wanted_breaches s round m (block a span) = stmts_breaches ds fs k s round m a
   wanted_breaches s round m (omp d a span) = stmts_breaches ds fs k s round (loops_asked (plan_of ds (forget_directive d)) m) a
   wanted_breaches s round m _ = none

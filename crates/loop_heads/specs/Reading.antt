@@ -1,5 +1,5 @@
 -- What the names in a bound break, without lists of names.
-use Rattle.std.specs.Prelude.{ℕ, List, [], ◌++◌, map, reverse, Option, Some, None, Bool, ◌&&◌, ◌||◌, if◌then◌else◌, bytes_eq}
+use Rattle.std.specs.Prelude.{ℕ, List, [], map, reverse, Option, Some, None, Bool, ◌&&◌, ◌||◌, if◌then◌else◌, bytes_eq}
 use Rattle.c_tree.specs.Bare.{Name}
 use Rattle.c_tree.specs.Placed.{Expr, num, read, item, un, bin, cond, cast, Exprs, no_exprs, more_exprs}
 use Rattle.c_tree.specs.PlacedOf.{placed_stmts}

@@ -1,5 +1,5 @@
 -- Sets of names, as lists of which only matters what they have, and what a function reads and assigns as two of them.
-use Rattle.std.specs.Prelude.{◌≡◌, ℕ, List, map, Bool, ◌||◌, Option, Some, None}
+use Rattle.std.specs.Prelude.{◌≡◌, List, map, ◌||◌, Option, Some, None}
 use Rattle.c_tree.specs.Bare.{Name}
 use Rattle.c_semantics.specs.Meaning.FileVariables.{Access, FunctionAccess, has_name, no_access, access_of}
 use Rattle.loop_heads.specs.declared.functions.Functions.TheInside.{Inside}

@@ -170,3 +170,130 @@ fn enter_loop<'p>(
     let own = enter_head(at, scope, round, head, body)?;
     Ok(lesser(form, lesser(breaks, own)))
 }
+
+/// The least breach of a head rule by the loops that a directive asks for, where it wants so many of a statement, one at
+/// least.
+#[cycle(stmts_breach)]
+fn stmt_breach<'p>(
+    at: Within<'p>,
+    scope: &mut Scope<'p>,
+    round: &mut Round<'p>,
+    stmt: &'p Stmt,
+    wanted: u64,
+) -> Result<Option<LoopBreach>, AllocError>
+    requires well_formed { WellFormedStmt (bare_stmt stmt.now) }
+    requires some { 0 < wanted }
+    ensures breach { IfOk result (λ b. b ≡ least (walks.wanted_breaches scope.old.defines at.entry.functions.now (changes_of at.entry.construct.now) scope.old.state round.old wanted (placed_stmt stmt.now))) }
+    ensures scope { OnOk result (scope.new ≡ scope.old) }
+    ensures round { OnOk result (round.new ≡ round.old) }
+{
+    match stmt {
+        Stmt::For { head, body, .. } => {
+            let found = for_breach(at, scope, round, body.as_slice(), head, wanted - 1)?;
+            Ok(found)
+        }
+        Stmt::Block { body, .. } => {
+            let below = stmts_breach(at, scope, round, body.as_slice(), wanted)?;
+            Ok(below)
+        }
+        Stmt::Omp {
+            directive,
+            body,
+            ..
+        } => {
+            let asked = asked_by(at.alloc, scope, directive, wanted)?;
+            let below = stmts_breach(at, scope, round, body.as_slice(), asked)?;
+            Ok(below)
+        }
+        Stmt::Decl { .. } => Ok(None),
+        Stmt::Set { .. } => Ok(None),
+        Stmt::Step { .. } => Ok(None),
+        Stmt::Print { .. } => Ok(None),
+        Stmt::Input { .. } => Ok(None),
+        Stmt::If { no: None, .. } => Ok(None),
+        Stmt::If { no: Some(_), .. } => Ok(None),
+        Stmt::While { .. } => Ok(None),
+        Stmt::Do { .. } => Ok(None),
+        Stmt::Break { .. } => Ok(None),
+        Stmt::Continue { .. } => Ok(None),
+        Stmt::Empty { .. } => Ok(None),
+        Stmt::Call { .. } => Ok(None),
+    }
+}
+
+/// The least breach of a head rule by a loop, and by so many loops that are wanted in its body.
+#[tactic(auto, using(crate::proofs::Nests::nests))]
+#[cycle(stmts_breach)]
+fn for_breach<'p>(
+    at: Within<'p>,
+    scope: &mut Scope<'p>,
+    round: &mut Round<'p>,
+    body: &'p [Stmt],
+    head: &'p ForHead,
+    wanted: u64,
+) -> Result<Option<LoopBreach>, AllocError>
+    requires head { WellFormedHead (bare_head head.now) }
+    requires body { WellFormedStmts (bare_stmts body.now) }
+    ensures breach { IfOk result (λ b. b ≡ least (walks.for_breaches scope.old.defines at.entry.functions.now (changes_of at.entry.construct.now) scope.old.state round.old wanted (placed_head head.now) (placed_stmts body.now) (form.canonical scope.old.defines (bare_head head.now)))) }
+    ensures scope { OnOk result (scope.new ≡ scope.old) }
+    ensures round { OnOk result (round.new ≡ round.old) }
+{
+    let len = scope.len();
+    let depth = round.len();
+    let here = enter_loop(at, scope, round, head, body)?;
+    let below = stmts_breach(at, scope, round, body, wanted)?;
+    scope.keep(len);
+    round.keep(depth);
+    Ok(lesser(here, below))
+}
+
+#[tactic(auto, using(crate::proofs::Nests::walks))]
+#[cycle(stmts_breach)]
+fn stmts_breach<'p>(
+    at: Within<'p>,
+    scope: &mut Scope<'p>,
+    round: &mut Round<'p>,
+    stmts: &'p [Stmt],
+    wanted: u64,
+) -> Result<Option<LoopBreach>, AllocError>
+    requires { WellFormedStmts (bare_stmts stmts.now) }
+    ensures breach { IfOk result (λ b. b ≡ least (rules.stmts_breaches scope.old.defines at.entry.functions.now (changes_of at.entry.construct.now) scope.old.state round.old wanted (placed_stmts stmts.now))) }
+    ensures scope { OnOk result (scope.new ≡ scope.old) }
+    ensures round { OnOk result (round.new ≡ round.old) }
+{
+    if wanted == 0 {
+        return Ok(None);
+    }
+    let mut found = None;
+    'each: for stmt in stmts {
+        let here = stmt_breach(at, scope, round, stmt, wanted)?;
+        found = lesser(found, here);
+    }
+    Ok(found)
+}
+
+/// The least breach of a rule of heads in a construct (L2 to L6, the source loops of L8, L9 and L28), by place and then by
+/// rule, and `None` exactly where there is none: in the loops that its directives ask for and what stands in their bodies,
+/// where these functions are known. The scope is the one where the construct stands, and is left as it was.
+pub fn construct_breach<'p>(
+    alloc: Global,
+    functions: &'p Functions,
+    scope: &mut Scope<'p>,
+    directive: &Directive,
+    body: &'p [Stmt],
+) -> Result<Option<LoopBreach>, AllocError>
+    requires directive { WellFormedDirective (bare_directive directive.now) }
+    requires body { WellFormedStmts (bare_stmts body.now) }
+    ensures breach { IfOk result (λ b. b ≡ least (rules.construct_breaches scope.old.defines functions.now scope.old.state (placed_directive directive.now) (placed_stmts body.now))) }
+    ensures scope { OnOk result (scope.new ≡ scope.old) }
+{
+    let asked = asked_by(alloc, scope, directive, 0)?;
+    let mut round = Round::new(alloc);
+    let at = Within {
+        alloc,
+        functions,
+        construct: body,
+    };
+    let found = stmts_breach(at, scope, &mut round, body, asked)?;
+    Ok(found)
+}
