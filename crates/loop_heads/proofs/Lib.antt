@@ -6,6 +6,6 @@ pub mod Assignments
 pub mod NameSets
 pub mod Known
 pub mod Calls
-pub mod Rounds
+pub mod NameStacks
 pub mod Bounds
 pub mod Nests

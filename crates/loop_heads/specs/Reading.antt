@@ -10,11 +10,11 @@ use Rattle.canonical_nests.specs.declared.rules.LoopRule.TheVariants.{L6, L8}
 use Rattle.canonical_nests.specs.LoopRules.Accesses.{PlacedName, reads, assigned_in, calls_in}
 use Rattle.canonical_nests.specs.LoopRules.BreachSets.{BreachSet, none, ◌&◌, breach, breach_if}
 use Rattle.canonical_nests.specs.LoopRules.Heads.{Changes, is_changed}
-use Rattle.loop_heads.specs.declared.round.Round.TheInside.{Inside}
+use Rattle.loop_heads.specs.declared.name_stack.NameStack.TheInside.{Inside}
 
 -- the names of the loops round a place, the innermost first
-abbrev pub round_of : Inside → List Name
-round_of r = map (λ n. n.now) (reverse r.names.items)
+abbrev pub stacked : Inside → List Name
+stacked r = map (λ n. n.now) (reverse r.names.items)
 
 -- what a construct with this body assigns and calls
 abbrev pub changes_of : List Node → Changes

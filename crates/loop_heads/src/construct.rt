@@ -22,7 +22,7 @@ use crate::calling::call_breach;
 use crate::form_rules::form_breach;
 use crate::functions::Functions;
 use crate::reading::{Place, is_file_variable, read_breach};
-use crate::round::Round;
+use crate::name_stack::NameStack;
 use c_tree::boxed::Boxed;
 use c_tree::tree::{Directive, ForHead, Stmt};
 use canonical_nests::canonical::CanonLoop;
@@ -105,7 +105,7 @@ fn enter<'p>(scope: &mut Scope<'p>, stmt: &'p Stmt) -> Result<(), AllocError>
 fn enter_canonical<'p>(
     at: Within<'p>,
     scope: &mut Scope<'p>,
-    round: &mut Round<'p>,
+    round: &mut NameStack<'p>,
     head: &'p ForHead,
     body: &'p [Stmt],
     canon: CanonLoop<'p>,
@@ -133,7 +133,7 @@ fn enter_canonical<'p>(
 fn enter_head<'p>(
     at: Within<'p>,
     scope: &mut Scope<'p>,
-    round: &mut Round<'p>,
+    round: &mut NameStack<'p>,
     head: &'p ForHead,
     body: &'p [Stmt],
 ) -> Result<Option<LoopBreach>, AllocError>
@@ -156,7 +156,7 @@ fn enter_head<'p>(
 fn enter_loop<'p>(
     at: Within<'p>,
     scope: &mut Scope<'p>,
-    round: &mut Round<'p>,
+    round: &mut NameStack<'p>,
     head: &'p ForHead,
     body: &'p [Stmt],
 ) -> Result<Option<LoopBreach>, AllocError>
@@ -177,7 +177,7 @@ fn enter_loop<'p>(
 fn stmt_breach<'p>(
     at: Within<'p>,
     scope: &mut Scope<'p>,
-    round: &mut Round<'p>,
+    round: &mut NameStack<'p>,
     stmt: &'p Stmt,
     wanted: u64,
 ) -> Result<Option<LoopBreach>, AllocError>
@@ -227,7 +227,7 @@ fn stmt_breach<'p>(
 fn for_breach<'p>(
     at: Within<'p>,
     scope: &mut Scope<'p>,
-    round: &mut Round<'p>,
+    round: &mut NameStack<'p>,
     body: &'p [Stmt],
     head: &'p ForHead,
     wanted: u64,
@@ -252,7 +252,7 @@ fn for_breach<'p>(
 fn stmts_breach<'p>(
     at: Within<'p>,
     scope: &mut Scope<'p>,
-    round: &mut Round<'p>,
+    round: &mut NameStack<'p>,
     stmts: &'p [Stmt],
     wanted: u64,
 ) -> Result<Option<LoopBreach>, AllocError>
@@ -288,7 +288,7 @@ pub fn construct_breach<'p>(
     ensures scope { OnOk result (scope.new ≡ scope.old) }
 {
     let asked = asked_by(alloc, scope, directive, 0)?;
-    let mut round = Round::new(alloc);
+    let mut round = NameStack::new(alloc);
     let at = Within {
         alloc,
         functions,

@@ -7,6 +7,6 @@ pub mod calling;
 pub mod construct;
 pub mod form_rules;
 pub mod functions;
+pub mod name_stack;
 pub mod names;
 pub mod reading;
-pub mod round;

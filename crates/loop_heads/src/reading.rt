@@ -11,7 +11,7 @@ ghost use Rattle.loop_heads.specs.Reading as walks;
 use crate::assigning::is_assigned;
 use crate::calling::some_may_assign;
 use crate::functions::Functions;
-use crate::round::Round;
+use crate::name_stack::NameStack;
 use c_tree::boxed::Boxed;
 use c_tree::name::Name;
 use c_tree::tree::{Expr, ForHead, Stmt};
@@ -28,7 +28,7 @@ pub struct Place<'a, 'p> {
     pub functions: &'a Functions,
     pub scope: &'a Scope<'p>,
     pub construct: &'a [Stmt],
-    pub round: &'a Round<'p>,
+    pub round: &'a NameStack<'p>,
     pub canon: CanonLoop<'a>,
 }
 

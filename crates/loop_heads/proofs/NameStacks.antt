@@ -1,4 +1,4 @@
--- The loops round a place: the search for a variable, and entering and leaving loops.
+-- Names in their order: the search for one, and entering and leaving them.
 use Rattle.std.proofs.Common.{◌≡◌, ◌∙◌, sym, ap, refl, ℕ, zero, suc, ◌+◌, ◌-◌, ◌<◌, ◌≤◌, true, false, Bor, List, [], ◌∷◌, ◌++◌, length, take, drop, reverse, map, arith}
 use Rattle.std.proofs.lemmas.List.{length-reverse, length-drop, reverse-append, take-append-drop, take_all, take_more, map-append}
 use Rattle.std.proofs.Math.Seq.{drop-append_seam}
@@ -61,4 +61,10 @@ round_kept k ns =
     omega (arith, seen_length (reverse ns), seen_length (reverse (drop k ns)), length-reverse ns, length-reverse (drop k ns), length-drop k ns) in
     sym (ap (λ n. drop n (map seen (reverse ns))) over ∙ (ap (drop (length (map seen (reverse (drop k ns))))) all ∙ drop-append_seam (map seen (reverse (drop k ns))) (map seen (reverse (take k ns)))))
 
-pub ruleset changes = (entered, round_length, round_kept)
+pub kept_within : (k : ℕ) (ns : List (Bor Name)) → map (λ m. m.now) (reverse (take (k - 0) ns)) ≡ keep k (map (λ m. m.now) (reverse ns))
+kept_within k ns = let e : k - 0 ≡ k = omega arith in ap (λ n. map seen (reverse (take n ns))) e ∙ round_kept k ns
+
+pub kept_all : (k : ℕ) (ns : List (Bor Name)) → length ns ≤ k → map (λ m. m.now) (reverse ns) ≡ keep k (map (λ m. m.now) (reverse ns))
+kept_all k ns le = ap (λ ys. map seen (reverse ys)) (sym (take_all k ns le)) ∙ round_kept k ns
+
+pub ruleset changes = (entered, round_length, round_kept, kept_within, kept_all)

@@ -1,6 +1,6 @@
 use Rattle.std.proofs.Common.{◌≡◌, ◌≤◌, length, map, take, reverse}
 use Rattle.c_semantics.specs.Meaning.FileVariables.{has_name}
-use Rattle.loop_heads.proofs.round.is_among.Given as goal
+use Rattle.loop_heads.proofs.name_stack.is_among.Given as goal
 
 -- What is left has the name.
 abbrev pub invariant-each : goal.invariant-each

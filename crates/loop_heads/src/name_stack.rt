@@ -1,4 +1,4 @@
-//! The variables of the affected loops round a place.
+//! Names in the order in which their scopes were entered.
 
 ghost use Rattle.std.specs.Prelude.{◌≡◌, ◌≤◌, [], ◌∷◌, OnOk, length, map, reverse};
 ghost use Rattle.c_semantics.specs.Meaning.FileVariables.{has_name};
@@ -8,24 +8,24 @@ use c_tree::name::Name;
 use std::alloc::{AllocError, Global};
 use std::marker::Model;
 
-/// The variables of the loops round a place, which contracts see with the innermost first.
+/// Names in the order in which they were entered, which contracts see with the latest first.
 #[derive(Drop)]
-pub struct Round<'p> {
+pub struct NameStack<'p> {
     names: Vec<&'p Name>,
 }
 
-impl<'p> Model for Round<'p> {
+impl<'p> Model for NameStack<'p> {
     ghost use Rattle.std.specs.Prelude.{List};
     ghost use Rattle.c_tree.specs.Bare.{Name};
-    ghost use Rattle.loop_heads.specs.Reading.{round_of};
+    ghost use Rattle.loop_heads.specs.Reading.{stacked};
 
     ghost Value = { List Name };
 
-    ghost view = { round_of };
+    ghost view = { stacked };
 }
 
 /// Whether a name is among others.
-#[tactic(auto, using(crate::proofs::Rounds::rounds))]
+#[tactic(auto, using(crate::proofs::NameStacks::rounds))]
 fn is_among(names: &[&Name], name: &Name) -> bool
     ensures { result ≡ has_name (map (λ n. n.now) (reverse names.now)) name.now }
 {
@@ -39,32 +39,44 @@ fn is_among(names: &[&Name], name: &Name) -> bool
     false
 }
 
-impl<'p> Round<'p> {
-    /// No loop stands round the place.
-    pub fn new(alloc: Global) -> Round<'p>
+impl<'p> NameStack<'p> {
+    /// No name was entered.
+    pub fn new(alloc: Global) -> NameStack<'p>
         ensures { result ≡ [] }
     {
-        Round {
+        NameStack {
             names: Vec::new(alloc),
         }
     }
 
-    /// Whether a loop round the place has this variable.
     pub fn has(&self, name: &Name) -> bool
         ensures { result ≡ has_name self.now name.now }
     {
         is_among(self.names.as_slice(), name)
     }
 
-    #[tactic(auto, using(crate::proofs::Rounds::changes))]
+    /// Whether a name is among the earliest, of which there are so many.
+    #[tactic(auto, using(crate::proofs::NameStacks::changes))]
+    pub fn has_within(&self, len: usize, name: &Name) -> bool
+        ensures { result ≡ has_name (keep len self.now) name.now }
+    {
+        let names = self.names.as_slice();
+        if len < names.len() {
+            is_among(&names[..len], name)
+        } else {
+            is_among(names, name)
+        }
+    }
+
+    #[tactic(auto, using(crate::proofs::NameStacks::changes))]
     pub fn len(&self) -> usize
         ensures { result ≡ length self.now }
     {
         self.names.len()
     }
 
-    /// Enters a loop with this variable.
-    #[tactic(auto, using(crate::proofs::Rounds::changes))]
+    /// Enters a name.
+    #[tactic(auto, using(crate::proofs::NameStacks::changes))]
     pub fn enter(&mut self, name: &'p Name) -> Result<(), AllocError>
         ensures { OnOk result (self.new ≡ name.now ∷ self.old) }
     {
@@ -72,8 +84,8 @@ impl<'p> Round<'p> {
         Ok(())
     }
 
-    /// Leaves the innermost loops, down to so many.
-    #[tactic(auto, using(crate::proofs::Rounds::changes))]
+    /// Leaves the latest names, down to so many.
+    #[tactic(auto, using(crate::proofs::NameStacks::changes))]
     pub fn keep(&mut self, len: usize)
         ensures { self.new ≡ keep len self.old }
     {
