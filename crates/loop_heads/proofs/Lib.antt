@@ -1,0 +1,11 @@
+pub mod Nodes
+pub mod Heads
+pub mod Breaks
+pub mod HeadForms
+pub mod Assignments
+pub mod NameSets
+pub mod Known
+pub mod Calls
+pub mod NameStacks
+pub mod Bounds
+pub mod Nests

@@ -1,0 +1,5 @@
+pub mod Assigning
+pub mod Calling
+pub mod Constructs
+pub mod Reading
+pub mod Touching

@@ -1,0 +1,12 @@
+//! The rules of the heads of affected loops, and of what stands in their bodies.
+#![tactic(auto)]
+
+pub mod assigning;
+pub mod breaking;
+pub mod calling;
+pub mod construct;
+pub mod form_rules;
+pub mod functions;
+pub mod name_stack;
+pub mod names;
+pub mod reading;
