@@ -1,6 +1,7 @@
 //! The constructs of a program carried out.
 #![tactic(auto)]
 
+mod carrying;
 mod defines;
 mod heads;
 pub mod laws;
