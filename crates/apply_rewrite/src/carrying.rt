@@ -1,6 +1,6 @@
 //! Reverse constructs carried out, inner ones first: each becomes a block. Bodies are moved.
 
-ghost use Rattle.std.specs.Prelude.{◌≡◌, IfOk, OnOk};
+ghost use Rattle.std.specs.Prelude.{◌≡◌, ◌≢◌, ◌∷◌, [], IfOk, MatchOption, OnOk, length};
 ghost use Rattle.std.specs.Option.{option_map};
 ghost use Rattle.c_tree.specs.Bare as b;
 ghost use Rattle.c_tree.specs.BareOf.{bare_program, bare_stmt, bare_stmts};
@@ -12,13 +12,13 @@ ghost use Rattle.loop_normal.specs.GenOf.{bare_gen};
 ghost use Rattle.loop_normal.specs.SourceOf.{source_of};
 ghost use Rattle.apply_rewrite.specs.CarriedOut as c;
 
-use crate::heads::declared_loop;
+use crate::heads::declared_head;
 use crate::reversible::is_bare_reverse;
 use c_tree::tree::{Program, Stmt, StmtList};
 use loop_normal::fresh::Fresh;
 use loop_normal::generated::Gen;
 use loop_normal::normal::{OwnedLoop, normal_leaf};
-use loop_normal::pieces::{block, no_parts, no_stmts, split_first};
+use loop_normal::pieces::{block, no_parts, no_stmts};
 use loop_normal::statements::statements;
 use permute_reverse::reversal::reverse;
 use std::alloc::{AllocError, Global};
@@ -46,6 +46,19 @@ fn leaf(
     match head {
         None => Ok(no_code(alloc)),
         Some(head) => normal_leaf(alloc, head, body, fresh),
+    }
+}
+
+/// The statement of a list of one, and `None` for any other list.
+#[tactic(auto, using(crate::proofs::StatementMore::lone))]
+fn alone(stmts: StmtList) -> Option<Stmt>
+    ensures { MatchOption result (length stmts ≢ 1) (λ stmt. stmts ≡ stmt ∷ []) }
+{
+    let mut items = stmts.into_items();
+    if items.len() == 1 {
+        Some(items.remove(0))
+    } else {
+        None
     }
 }
 
@@ -126,7 +139,6 @@ fn carried(
 }
 
 /// A list with the constructs in it carried out.
-#[tactic(auto, using(crate::proofs::StatementMore::carrying))]
 #[cycle(carrying)]
 pub(crate) fn carried_all(
     alloc: Global,
@@ -160,18 +172,12 @@ fn nest(
     ensures tree { IfOk result (λ code. bare_gen code ≡ (c.nest (program_defines (bare_program defines.now)) (bare_stmts stmts) fresh.old).tree) }
     ensures left { OnOk result (fresh.new ≡ (c.nest (program_defines (bare_program defines.now)) (bare_stmts stmts) fresh.old).left) }
 {
-    let (stmt, rest) = match split_first(stmts) {
-        None => return Ok(no_code(alloc)),
-        Some(split) => split,
-    };
-    if rest.is_empty() {
-        nest_in(alloc, defines, stmt, fresh)
-    } else {
-        Ok(no_code(alloc))
+    match alone(stmts) {
+        None => Ok(no_code(alloc)),
+        Some(stmt) => nest_in(alloc, defines, stmt, fresh),
     }
 }
 
-#[tactic(auto, using(crate::proofs::StatementMore::carrying))]
 #[cycle(carrying)]
 fn nest_in(
     alloc: Global,
@@ -185,14 +191,12 @@ fn nest_in(
     ensures left { OnOk result (fresh.new ≡ (c.nest_in (program_defines (bare_program defines.now)) (bare_stmt stmt) fresh.old).left) }
 {
     match stmt {
-        Stmt::For { head, body, span } => {
-            let empty = Stmt::For {
-                head,
-                body: no_stmts(alloc),
-                span,
-            };
-            let found = declared_loop(alloc, defines, &empty)?;
-            drop(empty);
+        Stmt::For {
+            head,
+            body,
+            span: _span,
+        } => {
+            let found = declared_head(alloc, defines, head)?;
             let body = carried_all(alloc, defines, body, fresh)?;
             leaf(alloc, found, body, fresh)
         }
@@ -208,6 +212,9 @@ fn nest_in(
             }
             Ok(no_code(alloc))
         }
-        _other => Ok(no_code(alloc)),
+        other => {
+            drop(other);
+            Ok(no_code(alloc))
+        }
     }
 }

@@ -2,19 +2,22 @@
 
 ghost use Rattle.std.specs.Prelude.{◌≡◌, IfOk};
 ghost use Rattle.std.specs.Option.{option_map};
-ghost use Rattle.c_tree.specs.BareOf.{bare_program, bare_stmt};
+ghost use Rattle.c_tree.specs.BareOf.{bare_head, bare_program, bare_stmt};
 ghost use Rattle.c_tree.specs.Constants.{DefinesAreHeld};
-ghost use Rattle.c_tree.specs.WellFormed.{WellFormedStmt};
+ghost use Rattle.c_tree.specs.WellFormed.{WellFormedHead, WellFormedStmt};
 ghost use Rattle.canonical_nests.specs.Canonical.{canonical_stmt, program_defines, seen_loop, test_op};
 ghost use Rattle.loop_normal.specs.SourceOf.{source_of};
 ghost use Rattle.loop_normal.specs.Laws.{source_loop};
-ghost use Rattle.apply_rewrite.specs.CarriedOut.{where_declared};
+ghost use Rattle.apply_rewrite.specs.CarriedOut as c;
 
 use c_tree::copy::copy_expr;
-use c_tree::tree::{BinOp, Program, Stmt, Ty};
+use c_tree::tree::{BinOp, ForHead, Program, Span, Stmt, Ty};
 use canonical_nests::canonical::{CanonLoop, Test, canonical};
 use loop_normal::normal::OwnedLoop;
+use loop_normal::pieces::no_stmts;
 use std::alloc::{AllocError, Global};
+
+const NOWHERE: Span = Span { start: 0, end: 0 };
 
 fn operator(test: Test) -> BinOp
     ensures { result ≡ test_op test }
@@ -47,14 +50,14 @@ fn copied(alloc: Global, found: CanonLoop, ty: Ty) -> Result<OwnedLoop, AllocErr
 
 /// The parts of a canonical loop that declares its variable, and `None` exactly for any other statement.
 #[tactic(auto, using(crate::proofs::Walks::held))]
-pub(crate) fn declared_loop(
+fn declared_loop(
     alloc: Global,
     defines: &Program,
     stmt: &Stmt,
 ) -> Result<Option<OwnedLoop>, AllocError>
     requires defines_held { DefinesAreHeld (bare_program defines.now) }
     requires well_formed { WellFormedStmt (bare_stmt stmt.now) }
-    ensures { IfOk result (λ head. option_map source_of head ≡ where_declared (canonical_stmt (program_defines (bare_program defines.now)) (bare_stmt stmt.now))) }
+    ensures { IfOk result (λ head. option_map source_of head ≡ c.where_declared (canonical_stmt (program_defines (bare_program defines.now)) (bare_stmt stmt.now))) }
 {
     let found = match canonical(defines, stmt) {
         None => return Ok(None),
@@ -64,4 +67,23 @@ pub(crate) fn declared_loop(
         None => Ok(None),
         Some(ty) => Ok(Some(copied(alloc, found, ty)?)),
     }
+}
+
+/// The parts of a loop with this head, where the head is canonical and declares its variable: a loop with an empty body
+/// stands for it.
+pub(crate) fn declared_head(
+    alloc: Global,
+    defines: &Program,
+    head: ForHead,
+) -> Result<Option<OwnedLoop>, AllocError>
+    requires defines_held { DefinesAreHeld (bare_program defines.now) }
+    requires well_formed { WellFormedHead (bare_head head) }
+    ensures { IfOk result (λ found. option_map source_of found ≡ c.declared_loop (program_defines (bare_program defines.now)) (bare_head head)) }
+{
+    let empty = Stmt::For {
+        head,
+        body: no_stmts(alloc),
+        span: NOWHERE,
+    };
+    declared_loop(alloc, defines, &empty)
 }
