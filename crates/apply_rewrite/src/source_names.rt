@@ -69,12 +69,24 @@ fn option_names(alloc: Global, e: &Option<Expr>, names: &mut Vec<Name>) -> Resul
     }
 }
 
+/// A name and what stands between the brackets after it.
 #[tactic(auto, using(crate::proofs::Gathered::gathered))]
+fn use_names(
+    alloc: Global,
+    name: &Name,
+    es: &[Expr],
+    names: &mut Vec<Name>,
+) -> Result<(), AllocError>
+    ensures { OnOk result (names.new.items ≡ names.old.items ++ (n.kept name.now ++ n.exprs_names (bare_exprs es.now))) }
+{
+    keep(alloc, name, names)?;
+    exprs_names(alloc, es, names)
+}
+
 fn target_names(alloc: Global, target: &Target, names: &mut Vec<Name>) -> Result<(), AllocError>
     ensures { OnOk result (names.new.items ≡ names.old.items ++ n.target_names (bare_target target.now)) }
 {
-    keep(alloc, &target.name, names)?;
-    exprs_names(alloc, target.subs.as_slice(), names)
+    use_names(alloc, &target.name, target.subs.as_slice(), names)
 }
 
 #[tactic(auto, using(crate::proofs::Gathered::gathered))]
@@ -95,19 +107,13 @@ fn stmt_names(alloc: Global, stmt: &Stmt, names: &mut Vec<Name>) -> Result<(), A
         Stmt::Input { target, .. } => target_names(alloc, target, names),
         Stmt::Print { value, .. } => expr_names(alloc, value, names),
         Stmt::If { test, yes, no, .. } => {
-            expr_names(alloc, test, names)?;
+            tested_names(alloc, yes.as_slice(), test, names)?;
             match no {
-                None => stmts_names(alloc, yes.as_slice(), names),
-                Some(no) => {
-                    stmts_names(alloc, yes.as_slice(), names)?;
-                    stmts_names(alloc, no.as_slice(), names)
-                }
+                None => Ok(()),
+                Some(no) => stmts_names(alloc, no.as_slice(), names),
             }
         }
-        Stmt::While { test, body, .. } => {
-            expr_names(alloc, test, names)?;
-            stmts_names(alloc, body.as_slice(), names)
-        }
+        Stmt::While { test, body, .. } => tested_names(alloc, body.as_slice(), test, names),
         Stmt::Do { body, test, .. } => {
             stmts_names(alloc, body.as_slice(), names)?;
             expr_names(alloc, test, names)
@@ -118,14 +124,24 @@ fn stmt_names(alloc: Global, stmt: &Stmt, names: &mut Vec<Name>) -> Result<(), A
         }
         Stmt::Block { body, .. } => stmts_names(alloc, body.as_slice(), names),
         Stmt::Omp { body, .. } => stmts_names(alloc, body.as_slice(), names),
-        Stmt::Break { .. } => Ok(()),
-        Stmt::Continue { .. } => Ok(()),
-        Stmt::Empty { .. } => Ok(()),
-        Stmt::Call { name, args, .. } => {
-            keep(alloc, name, names)?;
-            exprs_names(alloc, args.as_slice(), names)
-        }
+        Stmt::Break { .. } | Stmt::Continue { .. } | Stmt::Empty { .. } => Ok(()),
+        Stmt::Call { name, args, .. } => use_names(alloc, name, args.as_slice(), names),
     }
+}
+
+/// A test, and then the statements under it.
+#[tactic(auto, using(crate::proofs::Gathered::gathered))]
+#[cycle(stmt_names)]
+fn tested_names(
+    alloc: Global,
+    stmts: &[Stmt],
+    test: &Expr,
+    names: &mut Vec<Name>,
+) -> Result<(), AllocError>
+    ensures { OnOk result (names.new.items ≡ names.old.items ++ (n.expr_names (bare_expr test.now) ++ n.stmts_names (bare_stmts stmts.now))) }
+{
+    expr_names(alloc, test, names)?;
+    stmts_names(alloc, stmts, names)
 }
 
 #[tactic(auto, using(crate::proofs::Gathered::gathered))]
