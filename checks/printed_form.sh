@@ -1,7 +1,7 @@
 #!/usr/bin/env bash
-# The printed forms of texts without directives: they are given back byte for byte, and gcc and clang accept them. What an
-# example prints, compiled by gcc, is what its printed form prints and what loopx prints that runs it. A compiler that is
-# missing is skipped.
+# What loopx writes for accepted texts: it is given back byte for byte, and gcc and clang accept it. What an example prints,
+# compiled by gcc, which ignores directives, is what its translation prints and what loopx prints that runs it. A compiler
+# that is missing is skipped.
 here=$(cd "$(dirname "${BASH_SOURCE[0]}")/.." && pwd)
 work=$(mktemp -d)
 trap 'rm -rf "$work"' EXIT
@@ -22,7 +22,7 @@ fail() {
     failed=$((failed + 1))
 }
 
-# printed FILE: the printed form of its text, which is its own printed form, and which the compilers accept
+# printed FILE: what its text is translated to, which is translated to itself, and which the compilers accept
 printed() {
     local compiler
     "$here/loopx" translate <"$1" >"$work/printed.c" || return 1
@@ -34,7 +34,7 @@ printed() {
     done
 }
 
-# runs_alike FILE: its text and its printed form print the same, and so does loopx
+# runs_alike FILE: its text and its translation print the same, and so does loopx
 runs_alike() {
     command -v gcc >/dev/null || return 0
     gcc -std=c11 -w "$1" "$work/outside.c" -o "$work/source" &&
@@ -55,14 +55,14 @@ for text in "$work"/accepted/*.c; do
     if printed "$text"; then
         passed=$((passed + 1))
     else
-        fail "$(basename "$text" .c) has another printed form: $(head -c 200 "$text")"
+        fail "$(basename "$text" .c) is written otherwise: $(head -c 200 "$text")"
     fi
 done
 for text in "$here"/examples/*.c; do
     if printed "$text" && runs_alike "$text"; then
         passed=$((passed + 1))
     else
-        fail "$(basename "$text") doesn't run as compiled, or its printed form doesn't"
+        fail "$(basename "$text") doesn't run as compiled, or its translation doesn't"
     fi
 done
 echo "printed_form: $passed passed, $failed failed"

@@ -7,6 +7,7 @@ mod depths;
 mod name_rules;
 mod printed_forms;
 mod refusals;
+mod reversed_loops;
 mod run_edges;
 mod runs;
 mod streams;

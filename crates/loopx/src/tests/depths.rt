@@ -19,7 +19,7 @@ type Row = (
 /// A part, and how often it stands there.
 type Times = (&'static str, usize);
 
-const NESTS: [Row; 12] = [
+const NESTS: [Row; 14] = [
     // A literal has height 1, and each sign, `print` and `main` one more.
     ("print(", ("- ", 253), "1", ("", 0), ");", ""),
     (
@@ -92,7 +92,19 @@ const NESTS: [Row; 12] = [
     ),
     // Parentheses add no height.
     ("print(", ("(", 100_000), "1", (")", 100_000), ");", ""),
+    // The construct has height 4, the block that stands for it 9.
+    ("", ("{", 246), REVERSED, ("}", 246), "", ""),
+    (
+        "",
+        ("{", 247),
+        REVERSED,
+        ("}", 247),
+        "",
+        "4:13: NotBuilt not built yet\n",
+    ),
 ];
+
+const REVERSED: &str = "\n#pragma omp reverse\nfor (int i = 0; i < 2; i++) print(i);\n";
 
 fn push_times(text: &mut String, times: Times) -> Result<(), AllocError> {
     for _ in 0..times.1 {

@@ -43,7 +43,7 @@ const TEXTS: [(&str, &str); 13] = [
 ];
 
 /// Lines of `main`.
-const LINES: [(&str, &str); 9] = [
+const LINES: [(&str, &str); 15] = [
     (
         "pr\\\nint(1);",
         "3:3: SplitToken line join without white space\n",
@@ -66,6 +66,31 @@ const LINES: [(&str, &str); 9] = [
     ),
     (
         "#pragma omp tile sizes(0)\nfor (int i = 0; i < 4; i += 0) { if (i) break; }\nprint(1);",
+        "3:13: NotBuilt not built yet\n",
+    ),
+    // Reverse constructs that aren't carried out.
+    (
+        "#pragma omp reverse\nfor (int i = 0; i < 4; i++) { if (i) break; }",
+        "3:13: NotBuilt not built yet\n",
+    ),
+    (
+        "int i;\n#pragma omp reverse\nfor (i = 0; i < 4; i++) ;",
+        "4:13: NotBuilt not built yet\n",
+    ),
+    (
+        "#pragma omp reverse\nfor (int i = 0; i < 4; i += 0) ;",
+        "3:13: NotBuilt not built yet\n",
+    ),
+    (
+        "#pragma omp reverse\nfor (int i = 0; i < 4; i *= 2) ;",
+        "3:13: NotBuilt not built yet\n",
+    ),
+    (
+        "#pragma omp reverse\n{ for (int i = 0; i < 4; i++) ; for (int i = 0; i < 4; i++) ; }",
+        "3:13: NotBuilt not built yet\n",
+    ),
+    (
+        "#pragma omp reverse\nfor (int i = 0; i < 4; i++) {\n#pragma omp unroll\nfor (int j = 0; j < 4; j++) ;\n}",
         "3:13: NotBuilt not built yet\n",
     ),
     ("print(x);", "3:7: N1 undeclared name\n"),

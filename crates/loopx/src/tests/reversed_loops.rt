@@ -1,0 +1,265 @@
+//! Texts whose directives are all `reverse`: they run as their order says, and so do their translations.
+
+use super::{Answer, answer_at_once, word_list};
+use crate::status::Status;
+use std::alloc::{AllocError, Global};
+use std::process::Abort;
+use std::test::Fail;
+
+/// A piece of `main`, what it prints, and what is told of the run.
+type Row = (&'static str, &'static str, &'static str);
+
+/// Heads of reversed loops that print their variable.
+const HEADS: [Row; 33] = [
+    ("int i = 0; i < 4; ++i", "3\n2\n1\n0\n", ""),
+    ("int i = 1; i <= 4; i++", "4\n3\n2\n1\n", ""),
+    ("int i = 4; i > 0; i--", "1\n2\n3\n4\n", ""),
+    ("int i = 3; i >= 0; --i", "0\n1\n2\n3\n", ""),
+    ("int i = 2; i != 5; ++i", "4\n3\n2\n", ""),
+    ("int i = 5; i != 2; i--", "3\n4\n5\n", ""),
+    ("int i = 0; 10 > i; i += 3", "9\n6\n3\n0\n", ""),
+    ("int i = 0; i <= 9; i = 3 + i", "9\n6\n3\n0\n", ""),
+    ("int i = 20; i > -5; i -= 7", "-1\n6\n13\n20\n", ""),
+    ("int i = 20; -1 <= i; i = i - 7", "-1\n6\n13\n20\n", ""),
+    ("int i = 20; i >= 0; i += -7", "6\n13\n20\n", ""),
+    ("int i = 0; i < N; i += N - 1", "2\n0\n", ""),
+    ("int i = 5; i < 5; i++", "", ""),
+    ("int i = 5; i <= 4; i++", "", ""),
+    ("int i = 3; i > 5; i--", "", ""),
+    (
+        "int i = 2147483645; i < 2147483647; i++",
+        "2147483646\n2147483645\n",
+        "",
+    ),
+    (
+        "int i = 2147483646; i <= 2147483647; i++",
+        "2147483647\n2147483646\n",
+        "",
+    ),
+    (
+        "int i = -2147483647; i >= -2147483647 - 1; i--",
+        "-2147483648\n-2147483647\n",
+        "",
+    ),
+    (
+        "int i = -2147483647 - 1; i < 2147483647; i += 2147483647",
+        "2147483646\n-1\n-2147483648\n",
+        "",
+    ),
+    (
+        "long long i = 9223372036854775805; i < 9223372036854775807; i++",
+        "9223372036854775806\n9223372036854775805\n",
+        "",
+    ),
+    (
+        "long long i = 9223372036854775806; i <= 9223372036854775807; i++",
+        "9223372036854775807\n9223372036854775806\n",
+        "",
+    ),
+    (
+        "long long i = -9223372036854775807 - 1; i < -9223372036854775806; i++",
+        "-9223372036854775807\n-9223372036854775808\n",
+        "",
+    ),
+    (
+        "long long i = -9223372036854775807; i >= -9223372036854775807 - 1; i--",
+        "-9223372036854775808\n-9223372036854775807\n",
+        "",
+    ),
+    (
+        "long long i = 9223372036854775807; i >= 0; i -= 9223372036854775807",
+        "0\n9223372036854775807\n",
+        "",
+    ),
+    // A distance or a count above 2^63 - 1.
+    (
+        "long long i = -1; i < 9223372036854775807; i += 9223372036854775807",
+        "",
+        "trap Overflow\n",
+    ),
+    (
+        "long long i = -9223372036854775807 - 1; i < 9223372036854775807; i++",
+        "",
+        "trap Overflow\n",
+    ),
+    (
+        "long long i = 0; i <= 9223372036854775807; i++",
+        "",
+        "trap Overflow\n",
+    ),
+    // Bounds that trap, or don't fit the variable's type.
+    ("int i = 0; i < 1 / zero; i++", "", "trap DivideByZero\n"),
+    ("int i = a[4]; i < 9; i++", "", "trap Index\n"),
+    ("int i = 0; i < unset; i++", "", "trap Unset\n"),
+    ("int i = 2147483648; i < 3; i++", "", "trap Narrow\n"),
+    ("int i = 0; i < 3000000000; i++", "", "trap Narrow\n"),
+    ("int i = a[-1]; i < 1 / zero; i++", "", "trap Index\n"),
+];
+
+/// Where reversed loops may stand, and what may stand in them.
+const PLACES: [Row; 20] = [
+    (
+        "#pragma omp reverse\n#pragma omp reverse\nfor (int i = 0; i < 3; i++) print(i);",
+        "0\n1\n2\n",
+        "",
+    ),
+    (
+        "#pragma omp reverse\n#pragma omp reverse\n#pragma omp reverse\nfor (int i = 0; i < 3; i++) print(i);",
+        "2\n1\n0\n",
+        "",
+    ),
+    (
+        "#pragma omp reverse\n{ {\n#pragma omp reverse\n{ for (int i = 0; i < 3; i++) print(i); }\n} }",
+        "0\n1\n2\n",
+        "",
+    ),
+    (
+        "#pragma omp reverse\nfor (int i = 0; i < 2; i++) {\n#pragma omp reverse\nfor (int j = 0; j < 3; j++) print(10 * i + j);\n}",
+        "12\n11\n10\n2\n1\n0\n",
+        "",
+    ),
+    (
+        "#pragma omp reverse\nfor (int i = 0; i < 2; i++) {\nfor (int j = 0; j < 2; j++) print(10 * i + j);\n#pragma omp reverse\nfor (int j = i; j < 2; j++) print(10 * i + j);\n}",
+        "10\n11\n11\n0\n1\n1\n0\n",
+        "",
+    ),
+    (
+        "for (int i = 0; i < 2; i++)\n#pragma omp reverse\nfor (int j = 0; j <= i; j++) print(10 * i + j);",
+        "0\n11\n10\n",
+        "",
+    ),
+    ("down(3); down(0); down(2);", "2\n1\n0\n1\n0\n", ""),
+    (
+        "#pragma omp reverse\nfor (int n = 1; n < 4; n++) down(n);",
+        "2\n1\n0\n1\n0\n0\n",
+        "",
+    ),
+    (
+        "int k = 2;\nwhile (k) {\nk--;\nif (k)\n#pragma omp reverse\nfor (int i = 0; i < 3; i++) print(i + k);\nelse\n#pragma omp reverse\nfor (int i = 5; i < 7; i++) print(i);\n}",
+        "3\n2\n1\n6\n5\n",
+        "",
+    ),
+    (
+        "int k = 0;\ndo {\n#pragma omp reverse\nfor (int i = 0; i < 2; i++) print(i - k);\nk++;\n} while (k < 2);",
+        "1\n0\n0\n-1\n",
+        "",
+    ),
+    (
+        "#pragma omp reverse\nfor (int i = 1; i < 4; i++) a[i] = a[i - 1] + i;\nfor (int i = 1; i < 4; i++) print(a[i]);",
+        "1\n2\n3\n",
+        "",
+    ),
+    (
+        "#pragma omp reverse\nfor (int i = 0; i < 5; i++) { if (i % 2) continue; print(i); }",
+        "4\n2\n0\n",
+        "",
+    ),
+    (
+        "#pragma omp reverse\nfor (int i = 0; i < 2; i++) while (1) { print(i); if (i < 9) break; }",
+        "1\n0\n",
+        "",
+    ),
+    (
+        "int i = 9;\n#pragma omp reverse\nfor (int i = 0; i < 2; i++) print(i);\nprint(i);",
+        "1\n0\n9\n",
+        "",
+    ),
+    (
+        "int omp_t0 = 7;\n#pragma omp reverse\nfor (int omp_t1 = 0; omp_t1 < omp_t3; omp_t1++) { long long omp_t5 = omp_t0; print(omp_t1 + omp_t5); }",
+        "8\n7\n",
+        "",
+    ),
+    (
+        "int n = input();\n#pragma omp reverse\nfor (int i = 0; i < n; i++) { int x = input(); print(10 * i + x); }",
+        "24\n15\n",
+        "trap InputEnd\n",
+    ),
+    (
+        "print(7);\n#pragma omp reverse\nfor (int i = 0; i < 3; i++) { print(i); if (i == 1) zero = 1 / zero; }",
+        "7\n2\n1\n",
+        "trap DivideByZero\n",
+    ),
+    (
+        "#pragma omp reverse\nfor (int i = 0; i < 3; i++) { print(i); while (i == 1) ; }",
+        "2\n1\n",
+        "cut\n",
+    ),
+    // A hundred turns are the most; the bound is tested where the next one is due.
+    (
+        "int s = 0;\n#pragma omp reverse\nfor (int i = 0; i < 100; i++) s = i;\nprint(s);",
+        "0\n",
+        "",
+    ),
+    (
+        "#pragma omp reverse\nfor (int i = 0; i < 101; i++) if (i == 1) print(i);",
+        "1\n",
+        "cut\n",
+    ),
+];
+
+/// What stands before the pieces.
+const DECLARED: &str =
+    "void print(long long);\nlong long input(void);\n#define N 3\nint a[4], zero, omp_t3 = 2;\nstatic void down(int n) {\n#pragma omp reverse\nfor (int i = 0; i < n; i++) print(i);\n}\nint main(void) {\nint unset;\n";
+
+/// A stack over a loop downwards, in a program that has a name like a fresh one.
+const STACK: &[u8] =
+    b"void print(long long);\nstatic void down(long long from) {\n#pragma omp reverse\n{\n#pragma omp reverse\nfor (long long omp_t0 = from; omp_t0 >= 0; omp_t0 -= 7) { if (omp_t0 % 2) continue; print(omp_t0); }\n}\n}\nint main(void) { down(20); }\n";
+
+/// What it is translated to.
+const STACK_IN_PLAIN_C: &[u8] =
+    b"extern void print(long long);\nstatic void down(long long from) {\n    {\n        long long omp_t1 = from;\n        long long omp_t2 = 0;\n        long long omp_t3 = omp_t1 >= omp_t2 ? ((long long)omp_t1 - (long long)omp_t2) / 7LL + 1LL : 0LL;\n        for (long long omp_t6 = 0LL; omp_t6 < omp_t3; omp_t6++) {\n            long long omp_t5 = omp_t3 - 1LL - omp_t6;\n            long long omp_t4 = omp_t3 - 1LL - omp_t5;\n            long long omp_t0 = (long long)((long long)omp_t1 + omp_t4 * -7LL);\n            {\n                if (omp_t0 % 2) {\n                    continue;\n                }\n                print(omp_t0);\n            }\n        }\n    }\n}\nint main(void) {\n    down(20);\n    return 0;\n}\n";
+
+fn answer(alloc: Global, words: &[&str], text: &[u8]) -> Result<Answer, AllocError> {
+    let words = word_list(alloc, words)?;
+    let text = Vec::from_slice(alloc, text)?;
+    answer_at_once(alloc, words.as_slice(), text, 1 << 16)
+}
+
+fn runs(rt: &impl Abort, alloc: Global, text: &[u8], row: &Row) -> Result<(), Fail> {
+    let got = answer(alloc, &["run", "100", "3", "4", "5"], text)?;
+    assert_eq!(rt; got.diag.as_slice(), row.2.as_bytes(), "{}", row.0);
+    assert_eq!(rt; got.out.as_slice(), row.1.as_bytes(), "{}", row.0);
+    Ok(())
+}
+
+/// The text is run, translated, and its translation is run and translated.
+fn runs_as_translated(rt: &impl Abort, alloc: Global, text: &[u8], row: &Row) -> Result<(), Fail> {
+    runs(rt, alloc, text, row)?;
+    let plain = answer(alloc, &["translate"], text)?;
+    assert_eq!(rt; plain.status, Status::Done, "{}", row.0);
+    runs(rt, alloc, plain.out.as_slice(), row)?;
+    let again = answer(alloc, &["translate"], plain.out.as_slice())?;
+    assert_eq!(rt; again.out.as_slice(), plain.out.as_slice(), "{}", row.0);
+    Ok(())
+}
+
+#[test]
+fn reverses_loops_with_all_tests_and_bounds(rt: HostRuntime) -> Result<(), Fail> {
+    for row in &HEADS {
+        let head = row.0;
+        let text = format!(in rt.alloc();
+            "{DECLARED}#pragma omp reverse\nfor ({head}) print(i);\n}}\n"
+        )?;
+        runs_as_translated(&rt, rt.alloc(), text.as_bytes(), row)?;
+    }
+    Ok(())
+}
+
+#[test]
+fn reverses_loops_wherever_they_stand(rt: HostRuntime) -> Result<(), Fail> {
+    for row in &PLACES {
+        let piece = row.0;
+        let text = format!(in rt.alloc(); "{DECLARED}{piece}\n}}\n")?;
+        runs_as_translated(&rt, rt.alloc(), text.as_bytes(), row)?;
+    }
+    Ok(())
+}
+
+#[test]
+fn writes_a_stack_in_plain_c(rt: HostRuntime) -> Result<(), Fail> {
+    let row = ("the stack", "20\n6\n", "");
+    let got = answer(rt.alloc(), &["translate"], STACK)?;
+    assert_eq!(rt; got.out.as_slice(), STACK_IN_PLAIN_C);
+    assert_eq!(rt; got.diag.len(), 0);
+    runs_as_translated(&rt, rt.alloc(), STACK, &row)
+}
