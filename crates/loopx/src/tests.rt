@@ -13,6 +13,7 @@ mod runs;
 mod streams;
 mod syntax_faults;
 mod translations;
+mod turns;
 
 use crate::run::run;
 use crate::status::Status;
