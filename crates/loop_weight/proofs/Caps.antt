@@ -1,11 +1,7 @@
--- Sums and products up to a cap.
+-- Sums and products up to the cap, 2^20 + 1.
 use Rattle.std.proofs.Common.{◌≡◌, ◌∙◌, sym, ap, ℕ, zero, suc, ◌+◌, ◌*◌, ◌≤◌, ◌⊎◌, min, arith}
 use Rattle.std.proofs.Common.{inl, inr}
 use Rattle.std.proofs.Math.Nat.{mul-le-mul_left, mul_comm}
-
--- 2^20 + 1
-abbrev pub cap : ℕ
-cap = 1048577
 
 pub min_plus : (a b : ℕ) → min (min a 1048577 + min b 1048577) 1048577 ≡ min (a + b) 1048577
 min_plus a b = omega arith

@@ -13,7 +13,7 @@ use Rattle.c_semantics.specs.Meaning.Expressions.{Define}
 use Rattle.canonical_nests.specs.Weight.{expr_weight, stmt_weight, stmts_weight, asked_below}
 use Rattle.loop_counts.specs.Wanted.{in_head}
 use Rattle.loop_weight.specs.Constructs.{head_weight}
-use Rattle.loop_weight.proofs.Caps.{min_plus, min_plus_right}
+use Rattle.loop_weight.proofs.Caps.{min_plus}
 use Rattle.loop_weight.proofs.Scopes.{loop_is}
 
 pub bare_choice : (a : Stmt) (e : Expr) (first other : List Stmt) (at : Span) → a ≡ v.If e first (Some other) at → bare_stmt a ≡ b.if_else (bare_expr e) (bare_stmts first) (bare_stmts other)
@@ -23,16 +23,12 @@ pub bare_loop : (a : Stmt) (h : ForHead) (body : List Stmt) (at : Span) → a �
 bare_loop a h body at is = ap bare_stmt is ∙ (ap bare_stmt (sym (v.rolls-For h body at)) ∙ fold-roll-Stmt b.Stmt b.Head stmt_layer head_layer (s.For h body at))
 
 module _ (ds : List Define) (u : State) where
-  pub choice_is : (m : ℕ) (e : b.Expr) (x y : b.Stmts) (a : b.Stmt) (test one first both other all : ℕ) → a ≡ b.if_else e x y
-      → test ≡ min (expr_weight e) 1048577 → one ≡ min (1 + test) 1048577 → first ≡ min (stmts_weight ds u 0 x) 1048577
-      → both ≡ min (one + first) 1048577 → other ≡ min (stmts_weight ds u 0 y) 1048577 → all ≡ min (both + other) 1048577
+  pub choice_is : (m : ℕ) (e : b.Expr) (x y : b.Stmts) (a : b.Stmt) (both other all : ℕ) → a ≡ b.if_else e x y
+      → both ≡ min (1 + expr_weight e + stmts_weight ds u 0 x) 1048577 → other ≡ min (stmts_weight ds u 0 y) 1048577 → all ≡ min (both + other) 1048577
       → all ≡ min (stmt_weight ds u m a) 1048577
-  choice_is m e x y a test one first both other all is test_is one_is first_is both_is other_is all_is =
-      let one_at : one ≡ min (1 + expr_weight e) 1048577 = one_is ∙ ((λ j. min (1 + test_is j) 1048577) ∙ min_plus_right 1 (expr_weight e)) in
-      let both_at : both ≡ min (1 + expr_weight e + stmts_weight ds u 0 x) 1048577 =
-      both_is ∙ ((λ j. min (one_at j + first_is j) 1048577) ∙ min_plus (1 + expr_weight e) (stmts_weight ds u 0 x)) in
+  choice_is m e x y a both other all is both_is other_is all_is =
       all_is
-      ∙ ((λ j. min (both_at j + other_is j) 1048577)
+      ∙ ((λ j. min (both_is j + other_is j) 1048577)
       ∙ (min_plus (1 + expr_weight e + stmts_weight ds u 0 x) (stmts_weight ds u 0 y)
       ∙ sym (ap (λ c. min (stmt_weight ds u m c) 1048577) is)))
 

@@ -2,9 +2,9 @@
 use Rattle.std.proofs.Common.{◌≡◌, ◌∙◌, sym, ap, ◌<◌, ◌≤◌, ◌+◌, ◌*◌, ℕ, List, map, min, length, drop, slice_index_or, arith}
 use Rattle.c_tree.proofs.Walks.{rest_more, rest_none}
 use Rattle.c_semantics.specs.Loops.Transformations as t
-use Rattle.canonical_nests.specs.Kinds.{Part, kind_at, at_part, below_loops, on_position, plan_kinds}
-use Rattle.canonical_nests.specs.Weight.{count_or_one, loops_round, part_of_position, copies, applied_copies}
-use Rattle.canonical_nests.specs.LoopRules.PlacedPlans.{PlacedPlan, forget_plan, forget_items}
+use Rattle.canonical_nests.specs.Kinds.{Part, kind_at, transformed_kinds, at_part, below_loops, on_position, plan_kinds}
+use Rattle.canonical_nests.specs.Weight.{count_or_one, own_copies, loops_round, part_of_position, copies, applied_copies}
+use Rattle.canonical_nests.specs.LoopRules.PlacedPlans.{PlacedPlan, plan, PlacedItems, forget_plan, forget_items}
 use Rattle.canonical_nests.specs.Plans.{seen_plan, seen_item, gather, part_of, loops_above}
 use Rattle.canonical_nests.specs.declared.nest.CountKind.{CountKind}
 use Rattle.canonical_nests.specs.declared.plan.Applied.{Applied, out-Applied}
@@ -12,7 +12,7 @@ use Rattle.canonical_nests.proofs.Applied.{seen_item_out}
 use Rattle.loop_counts.proofs.Applied.{position_is}
 use Rattle.loop_counts.proofs.ItemBreaches.{round_is, parts_from}
 use Rattle.loop_counts.proofs.Parts.{kind_there, kind_past}
-use Rattle.loop_weight.proofs.Caps.{min_times_left}
+use Rattle.loop_weight.proofs.Caps.{min_times, min_times_left}
 
 pub count_past : (ks : Part) (n : ℕ) → length ks ≤ n → count_or_one (kind_at ks n) ≡ 1
 count_past ks n le = ap count_or_one (kind_past n ks le)
@@ -64,6 +64,17 @@ module _ (c : t.Transformation) (k : ℕ) (xs : List Applied) (i : ℕ) (x : App
       joined all (copies (forget_plan placed) (k + loops_above c at) (drop (part_of c at) ps)) own (rest next) own_at
       ∙ (ap (λ qs. min (all * (copies (forget_plan placed) (k + loops_above c at) (drop (part_of c at) ps) * rest qs)) 1048577) next_at
       ∙ (ap (λ n. min (all * n) 1048577) (sym (here ps)) ∙ all_is))
+
+-- a directive with its items
+pub plan_step : (c : t.Transformation) (at : ℕ) (w : PlacedItems) (k : ℕ) (ps : List Part) (own rest all : ℕ) (p : PlacedPlan) → p ≡ plan c at w
+    → own ≡ min (own_copies c k ps) 1048577 → rest ≡ min (applied_copies c (forget_items w) k (transformed_kinds c k ps)) 1048577
+    → all ≡ min (own * rest) 1048577
+    → all ≡ min (copies (forget_plan p) k ps) 1048577
+plan_step c at w k ps own rest all p is own_is rest_is all_is =
+    all_is
+    ∙ ((λ j. min (own_is j * rest_is j) 1048577)
+    ∙ (min_times (own_copies c k ps) (applied_copies c (forget_items w) k (transformed_kinds c k ps))
+    ∙ sym (ap (λ q. min (copies (forget_plan q) k ps) 1048577) is)))
 
 pub items_end : (c : t.Transformation) (k : ℕ) (xs : List Applied) (i : ℕ) (ps : List Part) → length xs ≤ i
     → applied_copies c (forget_items (gather (map seen_item (drop i xs)))) k ps ≡ 1

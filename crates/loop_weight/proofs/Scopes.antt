@@ -4,7 +4,7 @@ use Rattle.std.specs.Prelude.{None}
 use Rattle.c_tree.specs.Bare.{Stmt, decl, set, step, print, input, if_, if_else, while_, do_, for_, block, break_, continue_, empty, omp, call, Stmts, Head, head}
 use Rattle.c_tree.specs.BareOf.{bare_stmt, bare_stmts}
 use Rattle.c_tree.specs.declared.tree.Stmt as code
-use Rattle.c_tree.proofs.Walks.{rest_more, rest_none}
+use Rattle.c_tree.proofs.Walks.{rest_more}
 use Rattle.c_semantics.specs.Meaning.State.{State, Var, scalar, with_frame, keep}
 use Rattle.c_semantics.specs.Meaning.Expressions.{Define}
 use Rattle.c_semantics.specs.Structure.Skeleton.{scope_after}
@@ -68,14 +68,8 @@ module _ (ds : List Define) (s : State) (m : ℕ) (xs : List code.Stmt) (i : ℕ
       → stmts_weight ds s m (bare_stmts (drop i xs)) ≡ stmt_weight ds s m (bare_stmt x) + stmts_weight ds (scope_after (bare_stmt x) s) m (bare_stmts (drop (i + 1) xs))
   stmts_more = rest_more (λ ys. stmts_weight ds s m (bare_stmts ys)) xs i
 
-  pub stmts_end : length xs ≤ i → stmts_weight ds s m (bare_stmts (drop i xs)) ≡ 0
-  stmts_end = rest_none (λ ys. stmts_weight ds s m (bare_stmts ys)) xs i
-
 pub weight_step : (all n new w r t total : ℕ) → new ≡ min (all + n) 1048577 → n ≡ min w 1048577 → t ≡ w + r → min (all + t) 1048577 ≡ total → min (new + r) 1048577 ≡ total
 weight_step all n new w r t total new_is n_is t_is all_is = omega arith
-
-pub weight_end : (all t total : ℕ) → t ≡ 0 → all ≤ 1048577 → min (all + t) 1048577 ≡ total → all ≡ total
-weight_end all t total t_is le all_is = omega arith
 
 -- one statement more: what is visible at the start, before it, after its weight, and after it
 module _ (v0 v v1 v2 : Visible) (m : ℕ) (xs : List code.Stmt) (i : ℕ) (x : code.Stmt) (same : v1 ≡ v)
@@ -103,10 +97,6 @@ module _ (v0 v v1 v2 : Visible) (m : ℕ) (xs : List code.Stmt) (i : ℕ) (x : c
 
   pub deep_step : (k : ℕ) → k ≤ length v.state.frame → k ≤ length v2.state.frame
   deep_step k le = subst (λ u. k ≤ length u.frame) (sym state_is) (deep_after k v.state le (bare_stmt x))
-
-pub back_outside : (v0 v w : Visible) (k : ℕ) → w ≡ record v { state = with_frame (keep k v.state.frame) v.state } → v.defines ≡ v0.defines
-    → with_frame (keep k v.state.frame) v.state ≡ v0.state → w ≡ v0
-back_outside v0 v w k is known outside = is ∙ (λ j. record { defines = known j; state = outside j })
 
 pub ruleset stmts = (keep_whole, well_formed_at)
 

@@ -3,7 +3,7 @@
 
 ghost use Rattle.std.specs.Prelude.{◌≡◌, ◌-◌, ◌+◌, ◌*◌, IfOk, OnOk};
 ghost use Rattle.std.specs.Option.{option_map};
-ghost use Rattle.c_tree.specs.BareOf.{bare_directive, bare_head, bare_stmt, bare_stmts, maybe_stmt};
+ghost use Rattle.c_tree.specs.BareOf.{bare_directive, bare_expr, bare_head, bare_stmt, bare_stmts, maybe_stmt};
 ghost use Rattle.c_tree.specs.WellFormed.{WellFormedDirective, WellFormedHead, WellFormedPart, WellFormedStmt, WellFormedStmts};
 ghost use Rattle.canonical_nests.specs.Weight as weight;
 ghost use Rattle.canonical_nests.specs.Weight.{capped_weight};
@@ -15,7 +15,7 @@ use crate::copying::copies;
 use crate::directives::added_weight;
 use crate::expressions::{expr_weight, exprs_weight, option_weight, target_weight};
 use c_tree::boxed::Boxed;
-use c_tree::tree::{Directive, ForHead, Stmt};
+use c_tree::tree::{Directive, Expr, ForHead, Stmt};
 use canonical_nests::need::loops_asked;
 use loop_counts::planned::planned;
 use loop_counts::scope::Scope;
@@ -64,23 +64,14 @@ pub fn stmt_weight<'p>(
 {
     match stmt {
         Stmt::If { test, yes, no, .. } => {
-            let yes = stmts_weight(alloc, yes.as_slice(), 0, scope)?;
-            let both = plus(plus(1, expr_weight(test)), yes);
+            let both = tested_weight(alloc, yes.as_slice(), test, scope)?;
             match no {
                 None => Ok(both),
-                Some(no) => {
-                    let other = stmts_weight(alloc, no.as_slice(), 0, scope)?;
-                    Ok(plus(both, other))
-                }
+                Some(no) => Ok(plus(both, stmts_weight(alloc, no.as_slice(), 0, scope)?)),
             }
         }
-        Stmt::While { test, body, .. } => {
-            let body = stmts_weight(alloc, body.as_slice(), 0, scope)?;
-            Ok(plus(plus(1, expr_weight(test)), body))
-        }
-        Stmt::Do { body, test, .. } => {
-            let body = stmts_weight(alloc, body.as_slice(), 0, scope)?;
-            Ok(plus(plus(1, body), expr_weight(test)))
+        Stmt::While { test, body, .. } | Stmt::Do { body, test, .. } => {
+            tested_weight(alloc, body.as_slice(), test, scope)
         }
         Stmt::For { head, body, .. } => {
             let head_weight = head_weight(alloc, head, scope)?;
@@ -106,6 +97,23 @@ pub fn stmt_weight<'p>(
         | Stmt::Continue { .. }
         | Stmt::Empty { .. } => Ok(plain_weight(stmt)),
     }
+}
+
+/// The weight of a test, and of the statements that it lets run.
+#[tactic(auto, using(crate::proofs::Caps::sums))]
+#[cycle(stmt_weight)]
+fn tested_weight<'p>(
+    alloc: Global,
+    body: &'p [Stmt],
+    test: &Expr,
+    scope: &mut Scope<'p>,
+) -> Result<u64, AllocError>
+    requires { WellFormedStmts (bare_stmts body.now) }
+    ensures weight { IfOk result (λ n. n ≡ capped_weight (1 + weight.expr_weight (bare_expr test.now) + weight.stmts_weight scope.old.defines scope.old.state 0 (bare_stmts body.now))) }
+    ensures scope { OnOk result (scope.new ≡ scope.old) }
+{
+    let body = stmts_weight(alloc, body, 0, scope)?;
+    Ok(plus(plus(1, expr_weight(test)), body))
 }
 
 /// The weight of a `for` without its body.

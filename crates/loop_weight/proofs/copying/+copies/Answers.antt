@@ -1,14 +1,13 @@
 -- One item more; and a directive with its items.
-use Rattle.std.proofs.Common.{◌≡◌, ◌∙◌, ◌+◌, ◌*◌, sym, ap, map, min, drop, arith}
-use Rattle.canonical_nests.specs.Kinds.{at_part, below_loops, transformed_kinds, plan_kinds}
+use Rattle.std.proofs.Common.{◌∙◌, ◌+◌, ◌*◌, ap, map, min, drop, arith}
+use Rattle.canonical_nests.specs.Kinds.{at_part, below_loops, plan_kinds}
 use Rattle.canonical_nests.specs.LoopRules.PlacedPlans.{forget_plan, forget_items}
-use Rattle.canonical_nests.specs.Weight.{own_copies, copies, applied_copies}
+use Rattle.canonical_nests.specs.Weight.{copies, applied_copies}
 use Rattle.canonical_nests.specs.Plans.{seen_transformation, seen_plan, seen_item, gather}
 use Rattle.canonical_nests.specs.declared.plan.Applied.{out-Applied}
 use Rattle.canonical_nests.specs.declared.plan.Plan.{out-Plan}
 use Rattle.loop_counts.proofs.ItemBreaches.{seen_plan_out}
-use Rattle.loop_weight.proofs.Caps.{min_times}
-use Rattle.loop_weight.proofs.Copies.{item_step}
+use Rattle.loop_weight.proofs.Copies.{item_step, plan_step}
 use Rattle.loop_weight.proofs.copying.+copies.Goals as goal
 
 pub applied_copies-each-preserved : goal.applied_copies-each-preserved
@@ -38,12 +37,10 @@ copies-returns t c =
     let k = c.args.round in
     let ps = c.args.parts.now in
     let fields = out-Plan c.args.plan.now in
-    let own_seen = seen_transformation fields.transformation in
-    let rest = applied_copies own_seen (forget_items (gather (map seen_item fields.items))) k (transformed_kinds own_seen k ps) in
-    let items : c.in_ok-items.items ≡ min rest 1048577 =
+    let seen = seen_transformation fields.transformation in
+    let items = gather (map seen_item fields.items) in
+    let given =
     c.in_ok-items.ensures
-    ∙ (λ j. min (applied_copies own_seen (forget_items (gather (map seen_item (c.as_slice.ensures j)))) k (c.in_ok-given.ensures j)) 1048577) in
-    c.times.ensures
-    ∙ ((λ j. min (c.own_copies-own.ensures j * items j) 1048577)
-    ∙ (min_times (own_copies own_seen k ps) rest
-    ∙ sym (ap (λ p. min (copies (forget_plan p) k ps) 1048577) (seen_plan_out c.args.plan.now))))
+    ∙ (λ j. min (applied_copies seen (forget_items (gather (map seen_item (c.as_slice.ensures j)))) k (c.in_ok-given.ensures j)) 1048577) in
+    plan_step seen fields.place items k ps c.own_copies-own.result c.in_ok-items.items c.times.result (seen_plan c.args.plan.now)
+    (seen_plan_out c.args.plan.now) c.own_copies-own.ensures given c.times.ensures

@@ -1,11 +1,11 @@
 -- An `if` with `else`; a loop and its body; a construct; and one statement more.
-use Rattle.std.proofs.Common.{◌∙◌, ap, sym, min, arith}
+use Rattle.std.proofs.Common.{◌∙◌, ◌+◌, ap, sym, min, arith}
 use Rattle.c_tree.specs.BareOf.{bare_directive, bare_expr, bare_head, bare_stmt, bare_stmts}
 use Rattle.c_tree.specs.declared.tree.Stmt.TheVariants as v
 use Rattle.canonical_nests.specs.LoopRules.PlacedPlans.{forget_plan}
 use Rattle.canonical_nests.specs.Plans.{seen_plan}
 use Rattle.canonical_nests.specs.Shapes.{found_by, single_kinds, member_kinds}
-use Rattle.canonical_nests.specs.Weight.{copies, stmts_weight, asked_below}
+use Rattle.canonical_nests.specs.Weight.{copies, expr_weight, stmts_weight, asked_below}
 use Rattle.canonical_nests.proofs.HeldTrees.{good_more}
 use Rattle.loop_counts.specs.Wanted.{in_head}
 use Rattle.loop_counts.proofs.ConstructBreaches.{kind_is}
@@ -41,21 +41,20 @@ omp_weight-returns-clause-weight t c =
     c.added_weight.result c.plus.result c.times.result
     c.in_ok-plan.ensures.bare c.in_ok-asked.ensures found times inner c.added_weight.ensures c.plus.ensures c.times.ensures
 
-pub stmt_weight-returns-in_ok-other-in-Some-clause-weight : goal.stmt_weight-returns-in_ok-other-in-Some-clause-weight
-stmt_weight-returns-in_ok-other-in-Some-clause-weight t c =
+pub stmt_weight-returns-in_ok-stmts_weight-in-Some-clause-weight : goal.stmt_weight-returns-in_ok-stmts_weight-in-Some-clause-weight
+stmt_weight-returns-in_ok-stmts_weight-in-Some-clause-weight t c =
     let ds = c.args.scope.now.defines in
     let s = c.args.scope.now.state in
     let w = c.in-If in
     let e = bare_expr w.test in
     let is = bare_choice c.args.stmt.now w.test w.yes c.in-Some.no w.span (w.is ∙ ap (λ o. v.If w.test w.yes o w.span) c.in-Some.is) in
-    let first = c.in_ok-yes-in-If.ensures.weight ∙ ap (λ xs. min (stmts_weight ds s 0 (bare_stmts xs)) 1048577) c.as_slice.ensures in
-    let same = c.in_ok-yes-in-If.ensures.scope in
+    let both = c.in_ok-both-in-If.ensures.weight ∙ ap (λ xs. min (1 + expr_weight e + stmts_weight ds s 0 (bare_stmts xs)) 1048577) c.as_slice.ensures in
+    let same = c.in_ok-both-in-If.ensures.scope in
     let other =
-    c.in_ok-other-in-Some.ensures.weight
+    c.in_ok-stmts_weight-in-Some.ensures.weight
     ∙ (λ j. min (stmts_weight (same j).defines (same j).state 0 (bare_stmts (c.as_slice-in-Some.ensures j))) 1048577) in
     choice_is ds s c.args.wanted e (bare_stmts w.yes) (bare_stmts c.in-Some.no) (bare_stmt c.args.stmt.now)
-    c.expr_weight.result c.plus.result c.in_ok-yes-in-If.yes c.plus-both.result c.in_ok-other-in-Some.other c.plus-in-Some.result is
-    c.expr_weight.ensures c.plus.ensures first c.plus-both.ensures other c.plus-in-Some.ensures
+    c.in_ok-both-in-If.both c.in_ok-stmts_weight-in-Some.field-0 c.plus.result is both other c.plus.ensures
 
 pub stmt_weight-returns-in_ok-body-in-For-clause-weight : goal.stmt_weight-returns-in_ok-body-in-For-clause-weight
 stmt_weight-returns-in_ok-body-in-For-clause-weight t c =
