@@ -1,9 +1,9 @@
 -- What the items that a loop has left make of parts.
-use Rattle.std.proofs.Common.{◌≡◌, ◌∙◌, refl, sym, ap, ◌<◌, ◌≤◌, ◌+◌, ◌-◌, ℕ, List, [], ◌∷◌, map, length, drop, slice_index_or, Option, Some, None, arith}
+use Rattle.std.proofs.Common.{◌≡◌, ◌∙◌, refl, sym, ap, ◌<◌, ◌≤◌, ◌+◌, ℕ, List, map, length, drop, slice_index_or, Some, None}
 use Rattle.c_tree.proofs.Walks.{rest_more, rest_none}
 use Rattle.c_semantics.specs.Loops.Transformations as t
 use Rattle.canonical_nests.specs.Kinds.{Part, at_part, below_loops, on_position, plan_kinds, applied_kinds}
-use Rattle.canonical_nests.specs.LoopRules.PlacedPlans.{PlacedPlan, forget_plan, forget_items}
+use Rattle.canonical_nests.specs.LoopRules.PlacedPlans.{forget_plan, forget_items}
 use Rattle.canonical_nests.specs.Plans.{seen_plan, seen_item, gather, part_of, loops_above}
 use Rattle.canonical_nests.specs.declared.plan.Applied.{Applied, out-Applied}
 use Rattle.canonical_nests.proofs.Applied.{seen_item_out}

@@ -1,5 +1,5 @@
 -- What a loop over positions, or over the loops that are taken, has left.
-use Rattle.std.proofs.Common.{◌≡◌, ◌∙◌, refl, sym, ap, ◌<◌, ◌≤◌, ◌+◌, ℕ, List, [], ◌∷◌, length, drop, slice_index_or, Option, Some, None, Bool, true, false, ◌&&◌, ◌||◌, arith}
+use Rattle.std.proofs.Common.{◌≡◌, ◌∙◌, refl, sym, ap, ◌<◌, ◌≤◌, ◌+◌, ℕ, List, length, drop, slice_index_or, Option, Some, None, false, ◌&&◌, ◌||◌}
 use Rattle.std.specs.Prelude.{not, is_none, is_some, ◌==◌}
 use Rattle.std.specs.List.{list_any}
 use Rattle.c_tree.proofs.Walks.{rest_more, rest_none}

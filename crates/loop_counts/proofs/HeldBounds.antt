@@ -2,7 +2,7 @@
 use Rattle.std.proofs.Common.{◌≡◌, subst, List, Option, Some, None, Bool, true, false, ℤ}
 use Rattle.std.specs.Prelude.{IfSome, if◌then◌else◌}
 use Rattle.std.specs.Option.{option_map}
-use Rattle.c_tree.specs.Bare.{Name, Expr, bin, decl, set, target, no_exprs, MaybeStmt, no_stmt, a_stmt, Head, head}
+use Rattle.c_tree.specs.Bare.{Name, Expr, bin, decl, set, target, no_exprs, MaybeStmt, a_stmt, Head, head}
 use Rattle.c_tree.specs.BareOf.{bare_expr}
 use Rattle.c_tree.specs.Constants.{LiteralsAreHeld}
 use Rattle.c_tree.specs.WellFormed.{WellFormedPart, WellFormedOption, WellFormedHead}

@@ -1,6 +1,5 @@
 -- The least breach of the items that a loop has left.
-use Rattle.std.proofs.Common.{◌≡◌, ◌∙◌, refl, sym, ap, ◌<◌, ◌≤◌, ◌+◌, ◌-◌, ℕ, List, map, length, drop, slice_index_or, Option, Some, None, arith, add-zero}
-use Rattle.std.proofs.lemmas.List.{drop_all}
+use Rattle.std.proofs.Common.{◌≡◌, ◌∙◌, refl, sym, ap, ◌<◌, ◌≤◌, ◌+◌, ℕ, List, map, length, drop, slice_index_or, Option, Some, None, arith}
 use Rattle.c_tree.proofs.Walks.{rest_more, rest_none}
 use Rattle.c_semantics.specs.Loops.Transformations as t
 use Rattle.canonical_nests.specs.Kinds.{Part, at_part, below_loops, on_position, plan_kinds}

@@ -1,12 +1,11 @@
 -- What a loop over counts has left.
-use Rattle.std.proofs.Common.{◌≡◌, ◌∙◌, refl, sym, ap, ◌<◌, ◌≤◌, ◌+◌, ℕ, max, List, [], ◌∷◌, ◌++◌, map, length, drop, slice_index_or, Option, Some, None, true, false, Bool, arith}
+use Rattle.std.proofs.Common.{◌≡◌, ◌∙◌, refl, sym, ap, ◌<◌, ◌≤◌, ◌+◌, ℕ, max, List, [], ◌∷◌, ◌++◌, map, length, drop, slice_index_or, Option, Some, None, true, false, arith}
 use Rattle.std.proofs.lemmas.List.{append_assoc}
 use Rattle.std.specs.Prelude.{◌==◌, if◌then◌else◌}
 use Rattle.c_tree.proofs.Walks.{rest_more, rest_none}
 use Rattle.c_semantics.specs.Loops.Transformations.{any_zero}
 use Rattle.c_semantics.specs.Structure.Parts.{all_known, and_known, greatest}
 use Rattle.canonical_nests.specs.declared.nest.CountKind.{CountKind}
-use Rattle.canonical_nests.specs.declared.nest.CountKind.TheVariants.{Entry}
 use Rattle.canonical_nests.specs.Kinds.{Part, known_count, kind_at}
 
 pub first_none : (ks : Part) → ks ≡ [] → known_count (kind_at ks 0) ≡ None

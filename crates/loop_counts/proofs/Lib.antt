@@ -1,6 +1,8 @@
 pub mod Applied
+pub mod ConstructBreaches
 pub mod DefineValues
 pub mod Dependences
+pub mod HeadParts
 pub mod HeldBounds
 pub mod HeldParts
 pub mod Interchanges
@@ -17,3 +19,4 @@ pub mod Splits
 pub mod Tiles
 pub mod Transforms
 pub mod TripCounts
+pub mod WantedKinds

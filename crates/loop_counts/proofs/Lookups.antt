@@ -3,11 +3,10 @@ use Rattle.std.proofs.Common.{◌≡◌, ◌∙◌, sym, ap, refl, ℕ, zero, su
 use Rattle.std.proofs.lemmas.List.{reverse-append, length-reverse, length-drop, take-append-drop, take_all, take_more, map-append}
 use Rattle.std.proofs.Math.Seq.{drop-append_seam}
 use Rattle.std.specs.Prelude.{bytes_eq, if◌then◌else◌, slice_index_or, Option, Some, None}
-use Rattle.std.specs.Option.{option_map}
 use Rattle.c_tree.specs.Bare.{Name}
 use Rattle.c_tree.specs.declared.constant.TypedValue.{TypedValue}
 use Rattle.c_tree.specs.declared.tree.Ty.{Ty}
-use Rattle.c_semantics.specs.Meaning.State.{scalar, Cell, Var, State, find, look, or_else, keep}
+use Rattle.c_semantics.specs.Meaning.State.{scalar, Cell, State, find, look, or_else, keep}
 use Rattle.loop_counts.specs.Visible.{variable_of, define_of, constant_named}
 use Rattle.loop_counts.specs.declared.scope.Variable.{Variable}
 use Rattle.loop_counts.specs.declared.scope.Constant.{Constant}

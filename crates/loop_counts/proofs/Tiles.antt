@@ -1,5 +1,5 @@
 -- What a loop over the sizes of `tile` has left.
-use Rattle.std.proofs.Common.{◌≡◌, ◌∙◌, refl, sym, ap, ◌<◌, ◌≤◌, ◌+◌, ℕ, List, [], ◌∷◌, length, drop, slice_index_or, arith}
+use Rattle.std.proofs.Common.{◌≡◌, ◌∙◌, refl, ap, ◌<◌, ◌≤◌, ◌+◌, ℕ, List, [], ◌∷◌, length, drop, slice_index_or, arith}
 use Rattle.std.proofs.lemmas.List.{drop_all}
 use Rattle.c_tree.proofs.Walks.{rest_more, rest_none}
 use Rattle.canonical_nests.specs.declared.nest.CountKind.{CountKind}

@@ -1,6 +1,7 @@
 //! What is known of how often the loops turn that directives give, and the rules of counts.
 #![tactic(auto)]
 
+pub mod construct;
 pub mod evaluate;
 pub mod fusing;
 pub mod heads;
@@ -13,6 +14,7 @@ pub mod planned;
 pub mod positions;
 pub mod rules;
 pub mod scope;
+pub mod shapes;
 pub mod splitting;
 pub mod tiling;
 pub mod transformed;

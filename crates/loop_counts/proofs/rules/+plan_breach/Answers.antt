@@ -1,6 +1,6 @@
 -- One item more; and a directive with its items.
-use Rattle.std.proofs.Common.{◌≡◌, ◌∙◌, ◌+◌, sym, ap, map, drop}
-use Rattle.canonical_nests.specs.Kinds.{at_part, below_loops, plan_kinds, transformed_kinds}
+use Rattle.std.proofs.Common.{◌∙◌, ◌+◌, sym, ap, map, drop}
+use Rattle.canonical_nests.specs.Kinds.{at_part, below_loops, plan_kinds}
 use Rattle.canonical_nests.specs.LoopRules.PlacedPlans.{forget_plan}
 use Rattle.canonical_nests.specs.LoopRules.BreachSets.{least, lesser}
 use Rattle.canonical_nests.specs.LoopRules.Counts.{plan_breaches, items_breaches}
