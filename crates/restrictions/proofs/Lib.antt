@@ -1,1 +1,4 @@
 pub mod Heights
+pub mod Tiers
+pub mod Visibility
+pub mod Walks

@@ -1,4 +1,7 @@
 //! The loop rules of a whole program.
 #![tactic(auto)]
 
+pub mod constructs;
 pub mod height;
+pub mod scopes;
+pub mod statements;
