@@ -3,5 +3,6 @@
 
 pub mod constructs;
 pub mod height;
+pub mod items;
 pub mod scopes;
 pub mod statements;
