@@ -1,1 +1,5 @@
 pub mod Heights
+pub mod Parameters
+pub mod Tiers
+pub mod Visibility
+pub mod Walks

@@ -1,4 +1,8 @@
 //! The loop rules of a whole program.
 #![tactic(auto)]
 
+pub mod constructs;
 pub mod height;
+pub mod items;
+pub mod scopes;
+pub mod statements;
