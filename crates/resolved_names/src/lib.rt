@@ -4,4 +4,6 @@
 pub mod laws;
 pub mod names;
 pub mod resolve;
+#[cfg(test)]
+mod tests;
 pub mod tree;
