@@ -13,8 +13,8 @@ use Rattle.c_semantics.specs.Meaning.SimpleStatements.{Function, Env, function_n
 use Rattle.c_semantics.specs.Meaning.Statements.{exec, exec_all, exec_maybe}
 use Rattle.c_semantics.specs.Meaning.Programs.{initial, env_with, env_after, globals_with, no_env}
 use Rattle.c_semantics.specs.Structure.Skeleton.{scope_after, scope_in}
-use Rattle.c_scopes.specs.Types.{types, type_held, type_seen, type_filed, HasTypes, FileIs, with_params, KeepsFile, EachKeepsFile}
-use Rattle.c_scopes.specs.Laws.{StatementsKeepTypes, BlocksKeepTypes, ProgramsKeepTypes, CallsHaveTypes, scope_with, IsNewIn, ItemsHaveTypes}
+use Rattle.c_scopes.specs.Types.{types, type_held, type_seen, type_filed, FileHasTypes, HasTypes, FileIs, with_params, KeepsFile, EachKeepsFile}
+use Rattle.c_scopes.specs.Laws.{StatementsKeepTypes, BlocksKeepTypes, ProgramsKeepTypes, CallsHaveTypes, scope_with, IsNewIn, ItemsHaveTypes, LaterScopes}
 use Rattle.c_scopes.proofs.Kept.{Same, block_same, all_grown, exec_same}
 
 -- ---- what is seen depends on names and types only
@@ -136,8 +136,8 @@ module _ (ds : List Define) (s : State) where
       first rest (Ok z) e = second rest (convert p.ty z) e
 
 -- without a frame only the file's variables are seen
-pub outside : (scope s : State) → HasTypes scope s → HasTypes (with_frame [] scope) (with_frame [] s)
-outside scope s g = record { seen = g.filed; filed = g.filed }
+pub outside : (scope s : State) → FileHasTypes scope s → HasTypes (with_frame [] scope) (with_frame [] s)
+outside scope s g = record { seen = g; filed = g }
 
 pub calls_have_types : CallsHaveTypes
 calls_have_types = λ ds scope s ps es vs g e. fill ds s (with_frame [] scope) ps es [] vs (outside scope s g) e
@@ -193,3 +193,20 @@ items_have_types = λ ds scope s i h. (file_has scope s h, by ds scope s i h)
     by ds scope s (extern_ port) h new = h
     by ds scope s (function x ps a) h new = h
     by ds scope s (main a) h new = h
+
+later : (scope s : State) (x : Name) (t : Ty) → type_filed scope x ≡ None → FileHasTypes (with_globals (record { name = x; cell = scalar t None } ∷ scope.globals) scope) s → FileHasTypes scope s
+later scope s x t new g y u e = by (bytes_eq y x) refl (g y u)
+  where
+    by : (b : Bool) → bytes_eq y x ≡ b → (type_held (if b then Some (scalar t None) else find y scope.globals) ≡ Some u → type_filed s y ≡ Some u) → type_filed s y ≡ Some u
+    by true q k = absurd (let none : type_filed scope y ≡ None = ap (type_filed scope) ((bytes_decides y x).0 q) ∙ new in cc)
+    by false q k = k e
+
+pub later_scopes : LaterScopes
+later_scopes = by
+  where
+    by : (scope s : State) (i : Top) → IsNewIn scope i → FileHasTypes (scope_with scope i) s → FileHasTypes scope s
+    by scope s (global t x dims e) new g = later scope s x t new g
+    by scope s (define x minus k t) new g = g
+    by scope s (extern_ port) new g = g
+    by scope s (function x ps a) new g = g
+    by scope s (main a) new g = g
