@@ -23,7 +23,7 @@ pub fn calls_have_types()
     ensures { CallsHaveTypes }
 {}
 
-/// After an item of the file the state has the variables of the scope after it, where no two of the file have one name.
+/// After an item of the file its variables are those of the scope after it.
 pub fn items_have_types()
     ensures { ItemsHaveTypes }
 {}
