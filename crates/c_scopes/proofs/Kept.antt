@@ -170,7 +170,7 @@ call_same (Some f) ds es h s = value_gives (Same s) (arguments ds s f.params es 
 
 -- ---- iterations
 
-abbrev BodyGrows : Option Body → Type 0
+abbrev pub BodyGrows : Option Body → Type 0
 BodyGrows None = Unit {0}
 BodyGrows (Some b) = Grows b.run
 
@@ -192,7 +192,7 @@ copies_grown [] zs s = grown_self s
 copies_grown (x ∷ xs) [] s = let u = push x.0 (scalar x.1 None) s in grown_then s u (push_copies xs [] u) (x ∷ [], refl, refl) (copies_grown xs [] u)
 copies_grown (x ∷ xs) (z ∷ zs) s = let u = push x.0 (scalar x.1 (Some z)) s in grown_then s u (push_copies xs zs u) (x ∷ [], refl, refl) (copies_grown xs zs u)
 
-iteration_same : (b : Option Body) (zs : List ℤ) → BodyGrows b → Keeps (run_body b zs)
+pub iteration_same : (b : Option Body) (zs : List ℤ) → BodyGrows b → Keeps (run_body b zs)
 iteration_same None zs h s = same_self s
 iteration_same (Some b) zs h s = let u = push_copies b.vars zs s in left_same s (b.run u).state (grown_then s u (b.run u).state (copies_grown b.vars zs s) (h u))
 

@@ -1,6 +1,6 @@
 -- What a scope says of a state stays true.
 use Rattle.std.proofs.Common.{◌≡◌, refl, sym, ap, ◌∙◌, subst, ℕ, List, [], ◌∷◌, ◌++◌, Option, Some, None, Result, Ok, Err, Bool, true, false, ℤ}
-use Rattle.std.specs.Prelude.{bytes_eq, if◌then◌else◌}
+use Rattle.std.specs.Prelude.{bytes_eq, is_some, if◌then◌else◌}
 use Rattle.std.specs.Cmp.Lexicographic.{bytes_decides}
 use Rattle.c_tree.specs.Bare.{Name, Expr, Exprs, expr_list, no_exprs, more_exprs, Stmt, decl, MaybeStmt, no_stmt, a_stmt, Param, Top, define, extern_, global, function, main, Program}
 use Rattle.c_tree.specs.declared.tree.Ty.{Ty}
@@ -13,8 +13,8 @@ use Rattle.c_semantics.specs.Meaning.SimpleStatements.{Function, Env, function_n
 use Rattle.c_semantics.specs.Meaning.Statements.{exec, exec_all, exec_maybe}
 use Rattle.c_semantics.specs.Meaning.Programs.{initial, env_with, env_after, globals_with, no_env}
 use Rattle.c_semantics.specs.Structure.Skeleton.{scope_after, scope_in}
-use Rattle.c_scopes.specs.Types.{types, type_held, type_seen, type_filed, HasTypes, FileIs, with_params, KeepsFile, EachKeepsFile}
-use Rattle.c_scopes.specs.Laws.{StatementsKeepTypes, BlocksKeepTypes, ProgramsKeepTypes, CallsHaveTypes, scope_with, IsNewIn, ItemsHaveTypes}
+use Rattle.c_scopes.specs.Types.{types, type_held, type_seen, type_filed, FileHasTypes, HasTypes, FileIs, with_params, KeepsFile, EachKeepsFile}
+use Rattle.c_scopes.specs.Laws.{StatementsKeepTypes, BlocksKeepTypes, ProgramsKeepTypes, CallsHaveTypes, scope_with, ItemsHaveTypes, LaterScopes}
 use Rattle.c_scopes.proofs.Kept.{Same, block_same, all_grown, exec_same}
 
 -- ---- what is seen depends on names and types only
@@ -136,8 +136,8 @@ module _ (ds : List Define) (s : State) where
       first rest (Ok z) e = second rest (convert p.ty z) e
 
 -- without a frame only the file's variables are seen
-pub outside : (scope s : State) → HasTypes scope s → HasTypes (with_frame [] scope) (with_frame [] s)
-outside scope s g = record { seen = g.filed; filed = g.filed }
+pub outside : (scope s : State) → FileHasTypes scope s → HasTypes (with_frame [] scope) (with_frame [] s)
+outside scope s g = record { seen = g; filed = g }
 
 pub calls_have_types : CallsHaveTypes
 calls_have_types = λ ds scope s ps es vs g e. fill ds s (with_frame [] scope) ps es [] vs (outside scope s g) e
@@ -171,25 +171,64 @@ or_none : (o : Option Cell) → or_else o None ≡ o
 or_none None = refl
 or_none (Some c) = refl
 
--- a variable of the file that no other has the name of
-file_more : (ds : List Define) (scope s : State) (t : Ty) (x : Name) (c : Cell) → cell_type c ≡ t → FileIs scope s → type_filed scope x ≡ None
-    → FileIs (with_globals (record { name = x; cell = scalar t None } ∷ scope.globals) scope) (with_globals (s.globals ++ record { name = x; cell = c } ∷ []) s)
-file_more ds scope s t x c same h new = record {
-  filed = λ y. ap type_held (find_last y s.globals (record { name = x; cell = c })) ∙ by y (bytes_eq y x) refl;
-  scope_frame = h.scope_frame;
-  frame = h.frame;
-}
-  where
-    by : (y : Name) (b : Bool) → bytes_eq y x ≡ b → type_held (or_else (find y s.globals) (if b then Some c else None)) ≡ type_held (if b then Some (scalar t None) else find y scope.globals)
-    by y true q = last_type (find y s.globals) c t (h.filed y ∙ ap (type_filed scope) ((bytes_decides y x).0 q) ∙ new) same
-    by y false q = ap type_held (or_none (find y s.globals)) ∙ h.filed y
+or_some : (o q : Option Cell) → is_some (type_held o) ≡ true → or_else o q ≡ o
+or_some None q h = absurd (cc)
+or_some (Some c) q h = refl
+
+none_held : (o : Option Ty) → is_some o ≡ false → o ≡ None
+none_held None h = refl
+none_held (Some t) h = absurd (cc)
+
+-- one more variable of the file
+module _ (scope s : State) (t : Ty) (x : Name) where
+  abbrev added : Bool → State
+  added b = if b then scope else with_globals (record { name = x; cell = scalar t None } ∷ scope.globals) scope
+
+  added_frame : (b : Bool) → (added b).frame ≡ scope.frame
+  added_frame true = refl
+  added_frame false = refl
+
+  file_more : (c : Cell) → cell_type c ≡ t → FileIs scope s → (b : Bool) → is_some (type_filed scope x) ≡ b → FileIs (added b) (with_globals (s.globals ++ record { name = x; cell = c } ∷ []) s)
+  file_more c same h b q = record {
+    filed = λ y. ap type_held (find_last y s.globals (record { name = x; cell = c })) ∙ by b q y (bytes_eq y x) refl;
+    scope_frame = added_frame b ∙ h.scope_frame;
+    frame = h.frame;
+  }
+    where
+      by : (b : Bool) → is_some (type_filed scope x) ≡ b → (y : Name) (r : Bool) → bytes_eq y x ≡ r → type_held (or_else (find y s.globals) (if r then Some c else None)) ≡ type_filed (added b) y
+      by true q y true e =
+          let one : y ≡ x = (bytes_decides y x).0 e in
+          ap type_held (or_some (find y s.globals) (Some c) (ap is_some (h.filed y ∙ ap (type_filed scope) one) ∙ q)) ∙ h.filed y
+      by true q y false e = ap type_held (or_none (find y s.globals)) ∙ h.filed y
+      by false q y true e =
+          let one : y ≡ x = (bytes_decides y x).0 e in
+          last_type (find y s.globals) c t (h.filed y ∙ ap (type_filed scope) one ∙ none_held (type_filed scope x) q) same ∙ sym (ap (λ r. type_held (if r then Some (scalar t None) else find y scope.globals)) e)
+      by false q y false e = ap type_held (or_none (find y s.globals)) ∙ h.filed y ∙ sym (ap (λ r. type_held (if r then Some (scalar t None) else find y scope.globals)) e)
+
+  later : (b : Bool) → is_some (type_filed scope x) ≡ b → FileHasTypes (added b) s → FileHasTypes scope s
+  later true q g = g
+  later false q g = λ y u e. by y u e (bytes_eq y x) refl (g y u)
+    where
+      by : (y : Name) (u : Ty) → type_filed scope y ≡ Some u → (r : Bool) → bytes_eq y x ≡ r → (type_held (if r then Some (scalar t None) else find y scope.globals) ≡ Some u → type_filed s y ≡ Some u) → type_filed s y ≡ Some u
+      by y u e true a k = absurd (let none : type_filed scope y ≡ None = ap (type_filed scope) ((bytes_decides y x).0 a) ∙ none_held (type_filed scope x) q in cc)
+      by y u e false a k = k e
 
 pub items_have_types : ItemsHaveTypes
 items_have_types = λ ds scope s i h. (file_has scope s h, by ds scope s i h)
   where
-    by : (ds : List Define) (scope s : State) (i : Top) → FileIs scope s → IsNewIn scope i → FileIs (scope_with scope i) (with_globals (globals_with ds s.globals i) s)
-    by ds scope s (global t x dims e) h new = file_more ds scope s t x (initial ds t (expr_list dims) e) (initial_type ds t (expr_list dims) e) h new
-    by ds scope s (define x minus k t) h new = h
-    by ds scope s (extern_ port) h new = h
-    by ds scope s (function x ps a) h new = h
-    by ds scope s (main a) h new = h
+    by : (ds : List Define) (scope s : State) (i : Top) → FileIs scope s → FileIs (scope_with scope i) (with_globals (globals_with ds s.globals i) s)
+    by ds scope s (global t x dims e) h = file_more scope s t x (initial ds t (expr_list dims) e) (initial_type ds t (expr_list dims) e) h (is_some (type_filed scope x)) refl
+    by ds scope s (define x minus k t) h = h
+    by ds scope s (extern_ port) h = h
+    by ds scope s (function x ps a) h = h
+    by ds scope s (main a) h = h
+
+pub later_scopes : LaterScopes
+later_scopes = by
+  where
+    by : (scope s : State) (i : Top) → FileHasTypes (scope_with scope i) s → FileHasTypes scope s
+    by scope s (global t x dims e) g = later scope s t x (is_some (type_filed scope x)) refl g
+    by scope s (define x minus k t) g = g
+    by scope s (extern_ port) g = g
+    by scope s (function x ps a) g = g
+    by scope s (main a) g = g

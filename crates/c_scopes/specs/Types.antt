@@ -24,10 +24,14 @@ type_seen s x = type_held (look s x)
 abbrev pub type_filed : State → Name → Option Ty
 type_filed s x = type_held (find x s.globals)
 
--- a state has the variables of a scope, each with its type. The file may have more, which are declared later
+-- a state has the file's variables of a scope, each with its type, and may have more, which are declared later
+abbrev pub FileHasTypes : State → State → Type 0
+FileHasTypes scope s = (x : Name) (t : Ty) → type_filed scope x ≡ Some t → type_filed s x ≡ Some t
+
+-- a state has the variables of a scope, each with its type
 pub record HasTypes (scope s : State) : Type 0 where
   pub seen : (x : Name) (t : Ty) → type_seen scope x ≡ Some t → type_seen s x ≡ Some t
-  pub filed : (x : Name) (t : Ty) → type_filed scope x ≡ Some t → type_filed s x ≡ Some t
+  pub filed : FileHasTypes scope s
 
 -- between functions: the variables of the file are those of a scope, and no other is there
 pub record FileIs (scope s : State) : Type 0 where
