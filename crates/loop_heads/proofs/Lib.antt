@@ -9,3 +9,4 @@ pub mod Calls
 pub mod NameStacks
 pub mod Bounds
 pub mod Nests
+pub mod Touches
