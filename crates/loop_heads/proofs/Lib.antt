@@ -10,3 +10,6 @@ pub mod NameStacks
 pub mod Bounds
 pub mod Nests
 pub mod Touches
+pub mod Scopes
+pub mod AccessLists
+pub mod AccessSteps

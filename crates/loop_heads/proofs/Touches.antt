@@ -1,5 +1,5 @@
 -- What statements and expressions touch, one after another.
-use Rattle.std.proofs.Common.{◌≡◌, ◌∙◌, sym, ap, subst, refl, ◌<◌, ◌≤◌, ◌+◌, ℕ, List, [], ◌∷◌, ◌++◌, length, drop, slice_index_or}
+use Rattle.std.proofs.Common.{◌≡◌, ◌∙◌, sym, ap, subst, ◌<◌, ◌≤◌, ◌+◌, ℕ, List, [], ◌++◌, length, drop, slice_index_or}
 use Rattle.c_tree.specs.Bare.{Name}
 use Rattle.c_tree.specs.Bare as bare
 use Rattle.c_tree.specs.BareOf.{expr_layer, bare_expr, bare_exprs}

@@ -144,7 +144,7 @@ fn variable(
 
 /// The head of an affected loop.
 #[tactic(auto, using(crate::proofs::NameSets::grows_both))]
-pub fn head(hidden: Hidden, into: &mut Touched, canon: &CanonLoop) -> Result<(), AllocError>
+pub fn touch_head(hidden: Hidden, into: &mut Touched, canon: &CanonLoop) -> Result<(), AllocError>
     ensures { OnOk result (Gains into.old (files.head_access (keep hidden.entry.len hidden.entry.names.now) (Some (seen_loop canon.now))) into.new) }
 {
     variable(hidden, &mut into.reads, canon.ty, canon.var)?;
