@@ -9,3 +9,7 @@ pub mod Calls
 pub mod NameStacks
 pub mod Bounds
 pub mod Nests
+pub mod Touches
+pub mod Scopes
+pub mod AccessLists
+pub mod AccessSteps

@@ -1,3 +1,4 @@
+pub mod Affected
 pub mod Assigning
 pub mod Calling
 pub mod Constructs

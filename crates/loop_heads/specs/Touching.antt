@@ -12,6 +12,13 @@ pub record Gains (old : Access) (a : Access) (new : Access) : Type 0 where
   pub reads : Grows old.reads a.reads new.reads
   pub assigns : Grows old.assigns a.assigns new.assigns
 
+-- from `start`, these names are put in, of which `rest` are left at `now`
+pub record Continues (start : List Name) (all : List Name) (rest : List Name) (now : List Name) : Type 0 where
+  pub ends : (end : List Name) → Grows now rest end → Grows start all end
+
+pub record GainsOn (start : Access) (all : Access) (rest : Access) (now : Access) : Type 0 where
+  pub ends : (end : Access) → Gains now rest end → Gains start all end
+
 -- the same names are read and the same are assigned
 pub record IsSame (a : Access) (b : Access) : Type 0 where
   pub reads : (x : Name) → has_name a.reads x ≡ has_name b.reads x

@@ -37,10 +37,12 @@ impl Touched {
         }
     }
 
-    pub fn add_read(&mut self, name: &Name) -> Result<(), AllocError>
-        ensures { OnOk result (Gains self.old (record { reads = name.now ∷ []; assigns = [] }) self.new) }
+    /// Puts in all that is touched elsewhere.
+    pub fn add_all(&mut self, others: &Touched) -> Result<(), AllocError>
+        ensures { OnOk result (Gains self.old others.now self.new) }
     {
-        self.reads.add(name)
+        self.reads.add_all(&others.reads)?;
+        self.assigns.add_all(&others.assigns)
     }
 }
 

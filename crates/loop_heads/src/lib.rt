@@ -1,6 +1,8 @@
 //! The rules of the heads of affected loops, and of what stands in their bodies.
 #![tactic(auto)]
 
+pub mod access_walk;
+pub mod accessing;
 pub mod assigning;
 pub mod breaking;
 pub mod calling;
