@@ -154,7 +154,10 @@ fn enter<'p>(names: &mut NameStack<'p>, stmt: &'p Stmt) -> Result<(), AllocError
     }
 }
 
-fn enter_part<'p>(names: &mut NameStack<'p>, part: &'p Option<Boxed<Stmt>>) -> Result<(), AllocError>
+fn enter_part<'p>(
+    names: &mut NameStack<'p>,
+    part: &'p Option<Boxed<Stmt>>,
+) -> Result<(), AllocError>
     ensures { OnOk result (names.new ≡ files.scope_in (maybe_stmt (option_map bare_stmt part.now)) names.old) }
 {
     match part {

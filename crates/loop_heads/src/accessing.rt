@@ -128,12 +128,7 @@ pub fn set(hidden: Hidden, into: &mut Touched, op: SetOp, target: &Target) -> Re
 
 /// The variable of an affected loop, where its head doesn't declare it.
 #[tactic(auto, using(crate::proofs::NameSets::grows_none))]
-fn variable(
-    hidden: Hidden,
-    into: &mut Names,
-    ty: Option<Ty>,
-    name: &Name,
-) -> Result<(), AllocError>
+fn variable(hidden: Hidden, into: &mut Names, ty: Option<Ty>, name: &Name) -> Result<(), AllocError>
     ensures { OnOk result (Grows into.old (files.variable (keep hidden.entry.len hidden.entry.names.now) ty name.now) into.new) }
 {
     match ty {

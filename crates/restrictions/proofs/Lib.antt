@@ -1,3 +1,4 @@
+pub mod AlikeFunctions
 pub mod Heights
 pub mod Parameters
 pub mod Tiers

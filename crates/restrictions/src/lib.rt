@@ -4,5 +4,6 @@
 pub mod constructs;
 pub mod height;
 pub mod items;
+pub mod laws;
 pub mod scopes;
 pub mod statements;
