@@ -1,4 +1,5 @@
 pub mod Applied
+pub mod BodyDepths
 pub mod ClauseLists
 pub mod ClauseFields
 pub mod Constants
@@ -8,13 +9,13 @@ pub mod FirstOfSort
 pub mod ForgottenPlans
 pub mod HeldTrees
 pub mod Insertions
+pub mod LeastTried
 pub mod Numbers
 pub mod Order
 pub mod Planned
 pub mod Positioned
 pub mod Positions
 pub mod PutItems
-pub mod Reach
 pub mod Statements
 pub mod Targets
 pub mod Texts

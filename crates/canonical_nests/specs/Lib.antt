@@ -10,3 +10,4 @@ pub mod Canonical
 pub mod Plans
 pub mod FirstClauses
 pub mod Held
+pub mod BodyDepths

@@ -132,12 +132,12 @@ pub fn transformed_depths(
 
 /// Where an item stands: the part, from 0, and how many of its loops stand round the item.
 #[derive(Clone, Copy)]
-struct Place {
-    part: u64,
-    below: u64,
+pub(crate) struct Place {
+    pub(crate) part: u64,
+    pub(crate) below: u64,
 }
 
-fn place_of(c: &Transformation, position: u64) -> Place
+pub(crate) fn place_of(c: &Transformation, position: u64) -> Place
     ensures part { result.part ≡ part_of (seen_transformation c.now) position }
     ensures below { result.below ≡ loops_above (seen_transformation c.now) position }
 {

@@ -3,6 +3,7 @@
 #![tactic(auto)]
 
 pub mod admitted;
+mod body_depths;
 pub mod canonical;
 pub mod clauses;
 pub mod depths;
