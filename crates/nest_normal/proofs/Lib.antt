@@ -1,0 +1,10 @@
+pub mod HiddenCopies
+pub mod OuterLists
+pub mod Innermost
+pub mod Outer
+pub mod RoundNests
+pub mod Nests
+pub mod Lists
+pub mod Assembled
+pub mod KnownCount
+pub mod CountedWithin
