@@ -4,7 +4,7 @@ pub mod Innermost
 pub mod Outer
 pub mod RoundNests
 pub mod Nests
-pub mod Lists
-pub mod Assembled
 pub mod KnownCount
 pub mod CountedWithin
+pub mod HiddenNames
+pub mod Shown

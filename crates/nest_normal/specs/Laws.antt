@@ -1,5 +1,5 @@
 -- What the normal form of a nest denotes, loop by loop, and a loop of a known count.
-use Rattle.std.specs.Prelude.{◌≡◌, ℕ, ◌<◌, ◌^◌, List, [], ◌∷◌, ◌++◌, true, Result, Ok, Option, Some, None, slice_get}
+use Rattle.std.specs.Prelude.{◌≡◌, ℕ, ◌<◌, ◌^◌, List, [], ◌∷◌, ◌++◌, true, false, ◌||◌, bytes_eq, Result, Ok, Option, Some, None, slice_get}
 use Rattle.c_tree.specs.Bare.{Name, Stmts, no_stmts}
 use Rattle.c_tree.specs.declared.tree.Ty.{Ty}
 use Rattle.c_tree.specs.declared.arithmetic.Trap.{Trap}
@@ -14,17 +14,26 @@ use Rattle.c_semantics.specs.Loops.Forest.{loop_over}
 use Rattle.c_semantics.specs.Loops.Execution.{Body}
 use Rattle.c_semantics.specs.Laws.Names.{Names}
 use Rattle.loop_normal.specs.Gens.{GenLoop}
-use Rattle.loop_normal.specs.Templates.{LoopNames, SourceLoop, source_front, leaf}
+use Rattle.loop_normal.specs.Templates.{LoopNames, SourceLoop, source_front, leaf, round}
 use Rattle.loop_normal.specs.Denotes.{Calm, LoopMeans, GenMeans, Undeclared}
 use Rattle.loop_normal.specs.FreshNames.{Among, Source, NamesNone, AreApart, Apart}
 use Rattle.loop_normal.specs.Laws.{source_loop}
-use Rattle.nest_normal.specs.NestTexts.{nest_of, innermost, loop_round, at_loop, counted_to, zero_at, with_count}
+use Rattle.nest_normal.specs.NestTexts.{nest_of, innermost, hides, loop_round, nest_round, at_loop, counted_to, zero_at, with_count}
 use Rattle.nest_normal.specs.NestDenotes.{HasNone, NestMeans}
 use Rattle.nest_normal.specs.KnownCounts.{Turns, AllTurns, IsCounterFor, UndeclaredIf}
 
 -- the normal form of one loop is a nest
 abbrev pub LeafIsNest : Type 0
 LeafIsNest = (m : LoopNames) (h : SourceLoop) (as' : Stmts) → leaf m h as' ≡ nest_of (source_front m h no_stmts) (innermost m h as')
+
+-- a nest hides the names of its loops' variables, and no others
+abbrev pub HidesItsVariables : Type 0
+HidesItsVariables =
+    (m : LoopNames) (h : SourceLoop) (x : Name) → ((as' : Stmts) → hides (innermost m h as') x ≡ bytes_eq x h.var) × ((l : GenLoop) → hides (loop_round m h l) x ≡ (bytes_eq x h.var || hides l x))
+
+-- a loop whose variable the nest doesn't hide is put round it by the template
+abbrev pub RoundIsTemplate : Type 0
+RoundIsTemplate = (m : LoopNames) (h : SourceLoop) (front : Stmts) (l : GenLoop) → hides l h.var ≡ false → nest_round m h (nest_of front l) ≡ round m h (nest_of front l)
 
 -- what holds of a loop that is brought into normal form, and of its fresh names
 pub record IsSource (names : List Name) (m : LoopNames) (c : Canonical) : Type 0 where

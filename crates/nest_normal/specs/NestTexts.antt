@@ -47,6 +47,15 @@ abbrev mutual
 abbrev pub loop_round : LoopNames → SourceLoop → GenLoop → GenLoop
 loop_round m h l = gen_loop no_stmts m.counter (ll 0) (read m.count) (Nest (declare_in (source_var m h) l))
 
+-- the list below the innermost loop of the nest declares the name
+abbrev mutual
+  pub hides : GenLoop → Name → Bool
+  hides (gen_loop ls c a b inner) = hides_below inner
+
+  pub hides_below : Inner → Name → Bool
+  hides_below (Nest l) = hides l
+  hides_below (Seq ps) = λ x. declares x (parts_stmts ps)
+
 -- its bounds and its count come before the nest's
 abbrev pub nest_round : LoopNames → SourceLoop → Gen → Gen
 nest_round m h g = record { front = source_front m h g.front; parts = on_first (loop_round m h) g.parts }

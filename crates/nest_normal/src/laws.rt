@@ -1,6 +1,14 @@
 //! Laws of nests.
 
-ghost use Rattle.nest_normal.specs.Laws.{CountedDenotes, CountedNestDenotes, CountedWithin, InnermostDenotes, LeafIsNest, NestDenotes, RoundDenotes};
+ghost use Rattle.nest_normal.specs.Outlines.{CountsAreNotShown, NestsAreShown};
+ghost use Rattle.nest_normal.specs.Laws.{CountedDenotes, CountedNestDenotes, CountedWithin, HidesItsVariables, InnermostDenotes, LeafIsNest, NestDenotes, RoundDenotes, RoundIsTemplate};
+
+/// A nest hides exactly the names of its loops' variables; a loop whose variable it doesn't hide is put round it by the
+/// template.
+pub fn texts_of_nests()
+    ensures hides { HidesItsVariables }
+    ensures template { RoundIsTemplate }
+{}
 
 /// The innermost loop of a nest denotes the loop over its body, or the trap of its entry, within any outer loops: for each
 /// test, with steps up and down.
@@ -26,4 +34,11 @@ pub fn counted_denotes()
     ensures nest { CountedNestDenotes }
     ensures code { CountedDenotes }
     ensures within { CountedWithin }
+{}
+
+/// The normal form of a nest shows one `for` loop for each of its loops, in their order, and the leaves of the body once; a
+/// known count changes nothing of it.
+pub fn outlines_kept()
+    ensures nests { NestsAreShown }
+    ensures counts { CountsAreNotShown }
 {}
