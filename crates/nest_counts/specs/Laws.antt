@@ -1,0 +1,27 @@
+-- What the kinds of counts of a part say of the trees that have them.
+use Rattle.std.specs.Prelude.{ℕ, ◌≡◌, ◌+◌, ◌<◌, ◌≤◌, List, length, false}
+use Rattle.c_semantics.specs.Loops.IterationTrees.{Tree, widths, pick, build}
+use Rattle.c_semantics.specs.Loops.Transformations.{Plan, apply_plan}
+use Rattle.canonical_nests.specs.declared.nest.CountKind.TheVariants.{Known}
+use Rattle.canonical_nests.specs.Kinds.{Part, kind_at, plan_kinds}
+use Rattle.canonical_nests.specs.LoopRules.Counts.{depend_on_another}
+use Rattle.nest_counts.specs.HasKinds.{HasKinds, IsLoop, turns, EachBelow}
+use Rattle.nest_counts.specs.Plans.{Finds, PartsHave}
+
+-- where the count of a loop is known, every tree at its depth is a loop of that many turns
+abbrev pub KnownCountsHold : Type 0
+KnownCountsHold =
+    (ks : Part) (t : Tree) → HasKinds ks t → (n v : ℕ) → n < length ks → kind_at ks n ≡ Known v →
+    EachBelow (λ u. IsLoop u × turns u ≡ v) n t
+
+-- n loops below k others, none of which depends on another of them, are a nest that is as wide everywhere
+abbrev pub TakenLoopsAreRectangular : Type 0
+TakenLoopsAreRectangular =
+    (ks : Part) (t : Tree) → HasKinds ks t → (k n : ℕ) → k + n ≤ length ks → depend_on_another k n ks ≡ false →
+    EachBelow (λ u. u ≡ build (widths n u) (pick u)) k t
+
+-- where a directive and its items find what they take, the parts that they give have the kinds that they give
+abbrev pub DirectivesKeepKinds : Type 0
+DirectivesKeepKinds =
+    (p : Plan) (k : ℕ) (ps : List Part) (f : Tree → List Tree) (t : Tree) → PartsHave ps k f t → Finds p k ps →
+    PartsHave (plan_kinds p k ps) k (λ u. apply_plan p (f u)) t

@@ -1,0 +1,4 @@
+pub mod HasKinds
+pub mod Plans
+pub mod Statements
+pub mod Laws

@@ -1,0 +1,19 @@
+//! What the kinds of counts say of the trees of a construct.
+
+ghost use Rattle.nest_counts.specs.Laws.{DirectivesKeepKinds, KnownCountsHold, TakenLoopsAreRectangular};
+
+/// Where the count of a loop is known, every tree at its depth is a loop of that many turns.
+pub fn known_counts_hold()
+    ensures { KnownCountsHold }
+{}
+
+/// Loops one below another, none of which depends on another of them, are a nest that is as wide everywhere.
+pub fn taken_loops_are_rectangular()
+    ensures { TakenLoopsAreRectangular }
+{}
+
+/// Where a directive and its items find the loops that they take, and those of `tile` and `interchange` don't depend on one
+/// another, the parts that they give have the kinds of counts that they give.
+pub fn directives_keep_kinds()
+    ensures { DirectivesKeepKinds }
+{}
