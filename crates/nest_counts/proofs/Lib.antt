@@ -16,4 +16,6 @@ pub mod SplitParts
 pub mod Transformed
 pub mod Items
 pub mod Source
+pub mod Statements
+pub mod Bounds
 pub mod Corollaries

@@ -1,12 +1,25 @@
 -- What the kinds of counts of a part say of the trees that have them.
-use Rattle.std.specs.Prelude.{ℕ, ◌≡◌, ◌+◌, ◌<◌, ◌≤◌, List, length, false}
+use Rattle.std.specs.Prelude.{ℕ, ◌≡◌, ◌+◌, ◌<◌, ◌≤◌, List, length, Ok, false}
+use Rattle.c_tree.specs.Bare.{Directive, Stmts}
+use Rattle.c_tree.specs.Placed as placed
+use Rattle.c_semantics.specs.Meaning.State.{State}
+use Rattle.c_semantics.specs.Meaning.Expressions.{Define}
+use Rattle.c_semantics.specs.Meaning.FileVariables.{FunctionAccess}
+use Rattle.c_semantics.specs.Loops.Directives.{plan_of}
+use Rattle.c_semantics.specs.Loops.Need.{loops_asked}
+use Rattle.c_semantics.specs.Loops.Forest.{forest}
 use Rattle.c_semantics.specs.Loops.IterationTrees.{Tree, widths, pick, build}
 use Rattle.c_semantics.specs.Loops.Transformations.{Plan, apply_plan}
 use Rattle.canonical_nests.specs.declared.nest.CountKind.TheVariants.{Known}
 use Rattle.canonical_nests.specs.Kinds.{Part, kind_at, plan_kinds}
 use Rattle.canonical_nests.specs.LoopRules.Counts.{depend_on_another}
 use Rattle.nest_counts.specs.HasKinds.{HasKinds, IsLoop, turns, EachBelow}
-use Rattle.nest_counts.specs.Plans.{Finds, PartsHave}
+use Rattle.canonical_nests.specs.Shapes.{body_kinds}
+use Rattle.canonical_nests.specs.LoopRules.BreachSets.{HasNone}
+use Rattle.canonical_nests.specs.LoopRules.Heads as heads
+use Rattle.nest_counts.specs.Plans.{Finds, PartsHave, Beside}
+use Rattle.nest_counts.specs.Statements.{ConstructFinds}
+use Rattle.nest_counts.specs.Bounds.{ConstructBounds}
 
 -- where the count of a loop is known, every tree at its depth is a loop of that many turns
 abbrev pub KnownCountsHold : Type 0
@@ -25,3 +38,16 @@ abbrev pub DirectivesKeepKinds : Type 0
 DirectivesKeepKinds =
     (p : Plan) (k : ℕ) (ps : List Part) (f : Tree → List Tree) (t : Tree) → PartsHave ps k f t → Finds p k ps →
     PartsHave (plan_kinds p k ps) k (λ u. apply_plan p (f u)) t
+
+-- where the directives of a construct find what they take, and its loops are typed in the scope as in the state of the
+-- entry, the parts that it runs have the kinds that the rules of counts see
+abbrev pub ConstructsHaveKinds : Type 0
+ConstructsHaveKinds =
+    (ds : List Define) (scope s : State) (d : Directive) (a : Stmts) (ts : List Tree) → ConstructFinds ds s scope d a → forest ds s d a ≡ Ok ts →
+    Beside HasKinds (plan_kinds (plan_of ds d) 0 (body_kinds ds scope (loops_asked (plan_of ds d) 0) d a)) ts
+
+-- in a construct that breaks no rule of heads no bound reads what may change
+abbrev pub BoundsAreInvariant : Type 0
+BoundsAreInvariant =
+    (ds : List Define) (fs : List FunctionAccess) (s : State) (d : placed.Directive) (a : placed.Stmts) → HasNone (heads.construct_breaches ds fs s d a) →
+    ConstructBounds ds fs s d a

@@ -1,4 +1,5 @@
 pub mod HasKinds
 pub mod Plans
 pub mod Statements
+pub mod Bounds
 pub mod Laws

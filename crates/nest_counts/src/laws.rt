@@ -1,6 +1,6 @@
 //! What the kinds of counts say of the trees of a construct.
 
-ghost use Rattle.nest_counts.specs.Laws.{DirectivesKeepKinds, KnownCountsHold, TakenLoopsAreRectangular};
+ghost use Rattle.nest_counts.specs.Laws.{BoundsAreInvariant, ConstructsHaveKinds, DirectivesKeepKinds, KnownCountsHold, TakenLoopsAreRectangular};
 
 /// Where the count of a loop is known, every tree at its depth is a loop of that many turns.
 pub fn known_counts_hold()
@@ -16,4 +16,16 @@ pub fn taken_loops_are_rectangular()
 /// another, the parts that they give have the kinds of counts that they give.
 pub fn directives_keep_kinds()
     ensures { DirectivesKeepKinds }
+{}
+
+/// Where the directives of a construct find the loops that they take, and its loops are typed in the scope as in the state
+/// of the entry, the parts that it runs have the kinds of counts by which the loop rules decide.
+pub fn constructs_have_kinds()
+    ensures { ConstructsHaveKinds }
+{}
+
+/// In a construct that breaks no rule of heads, no bound of an affected loop reads what the construct or a function that it
+/// calls may assign, nor the variable of an affected loop round it.
+pub fn bounds_are_invariant()
+    ensures { BoundsAreInvariant }
 {}
