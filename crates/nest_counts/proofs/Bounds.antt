@@ -1,8 +1,8 @@
 -- Where no rule of heads is broken, no bound reads what may change.
-use Rattle.std.proofs.Common.{◌≡◌, refl, sym, ap, ◌∙◌, ℕ, zero, suc, List, [], ◌∷◌, Option, Some, None, Bool, true, false}
+use Rattle.std.proofs.Common.{◌≡◌, refl, ℕ, zero, suc, List, [], ◌∷◌, Option, Some, None, Bool, true, false}
 use Rattle.std.specs.Prelude.{is_some, ◌&&◌, ◌||◌, if◌then◌else◌, bytes_eq}
 use Rattle.c_tree.specs.Bare.{Name}
-use Rattle.c_tree.specs.Placed.{Stmt, for_, block, omp, Stmts, no_stmts, more_stmts, Head, Directive}
+use Rattle.c_tree.specs.Placed.{Stmt, for_, block, omp, Stmts, no_stmts, more_stmts, Head}
 use Rattle.c_tree.specs.Forget.{forget_head, forget_directive}
 use Rattle.c_semantics.specs.Meaning.State.{State}
 use Rattle.c_semantics.specs.Meaning.Expressions.{Define}
@@ -11,7 +11,7 @@ use Rattle.c_semantics.specs.Loops.CanonicalForm.{Canonical, canonical}
 use Rattle.c_semantics.specs.Loops.Directives.{plan_of}
 use Rattle.c_semantics.specs.Loops.Need.{loops_asked}
 use Rattle.canonical_nests.specs.declared.rules.LoopRule.TheVariants.{L6, L8}
-use Rattle.canonical_nests.specs.LoopRules.BreachSets.{BreachSet, HasNone, breach, breach_if}
+use Rattle.canonical_nests.specs.LoopRules.BreachSets.{HasNone, breach, breach_if}
 use Rattle.canonical_nests.specs.LoopRules.Accesses.{PlacedName, are_named, assigned_in, calls_in}
 use Rattle.canonical_nests.specs.LoopRules.Heads as heads
 use Rattle.canonical_nests.specs.LoopRules.Heads.{Changes, is_file_variable, some_may_assign, is_changed, read_breaches, bound_reads, scope_below, init_of, round_with, loop_breaches}
@@ -59,9 +59,10 @@ module _ (ds : List Define) (fs : List FunctionAccess) (k : Changes) where
   mutual
     stmt_bounds : (s : State) (round : List Name) (m : ℕ) (a : Stmt) → HasNone (heads.stmt_breaches ds fs k s round m a) → StmtBounds ds fs k s round m a
     stmt_bounds s round zero a h = tt
-    stmt_bounds s round (suc m) (for_ hd a span) h =
-        ( bounds_of s round hd a (canonical ds (forget_head hd)) h.1.1.0
-        , stmts_bounds (scope_below ds s (init_of hd) (canonical ds (forget_head hd))) (round_with (canonical ds (forget_head hd)) round) m a h.1.1.1 )
+    stmt_bounds s round (suc m) (for_ hd a span) h = (
+      bounds_of s round hd a (canonical ds (forget_head hd)) h.1.1.0,
+      stmts_bounds (scope_below ds s (init_of hd) (canonical ds (forget_head hd))) (round_with (canonical ds (forget_head hd)) round) m a h.1.1.1,
+    )
     stmt_bounds s round (suc m) (block a span) h = stmts_bounds s round (suc m) a h
     stmt_bounds s round (suc m) (omp d a span) h = stmts_bounds s round (loops_asked (plan_of ds (forget_directive d)) (suc m)) a h
     stmt_bounds s round (suc m) a h = tt

@@ -1,8 +1,7 @@
 -- Nests that are built from widths: what two ways through them find.
-use Rattle.std.proofs.Common.{◌≡◌, refl, sym, ap, ◌∙◌, subst, ℕ, zero, suc, ◌+◌, ◌-◌, ◌<◌, ◌≤◌, List, [], ◌∷◌, ◌++◌, map, length, Bool, true, false, arith}
-use Rattle.std.specs.Prelude.{◌==◌, if◌then◌else◌}
-use Rattle.std.proofs.lemmas.Bool.{eqb-true, eq-eqb, ne_eqb, cond-true, cond-false}
-use Rattle.c_semantics.specs.Loops.IterationTrees.{Tree, body, do_all, loop, Trees, no_trees, more_trees, to_list, of_list, loop_of, children, nth, members, width, widths, pick, build}
+use Rattle.std.proofs.Common.{◌≡◌, refl, sym, ap, ◌∙◌, subst, ℕ, zero, suc, ◌<◌, ◌≤◌, List, [], ◌∷◌, length, Bool, true, arith}
+use Rattle.std.proofs.lemmas.Bool.{eq-eqb, ne_eqb, cond-true, cond-false}
+use Rattle.c_semantics.specs.Loops.IterationTrees.{Tree, body, do_all, loop, Trees, no_trees, more_trees, to_list, of_list, loop_of, nth, members, width, widths, pick, build}
 use Rattle.nest_counts.specs.HasKinds.{IsLoop, turns, child, EachBelow, Related, SameTurns}
 use Rattle.nest_counts.proofs.Ways.{to_of, none_flagged}
 
@@ -82,15 +81,16 @@ related_build R (b ∷ bs) [] vs f g e d h r = absurd (omega arith)
 related_build R (b ∷ bs) (w ∷ ws) [] f g e d h r = absurd (omega arith)
 related_build R (b ∷ bs) (w ∷ ws) (v ∷ vs) f g e d h r =
     let F : ℕ → Tree = λ i. build ws (λ is. f (i ∷ is)) in
-    let G : ℕ → Tree = λ i. build vs (λ is. g (i ∷ is)) in
-    ( (λ is l m. turns_loop w F ∙ (h.0 is (subst (λ n. 0 < n) (turns_loop w F) l) (subst (λ n. 0 < n) (turns_loop v G) m) ∙ sym (turns_loop v G)))
-    , (λ i j l m a.
-        let l' : i < w = subst (λ n. i < n) (turns_loop w F) l in
-        let m' : j < v = subst (λ n. j < n) (turns_loop v G) m in
-        subst (λ x. Related R bs x (child (loop_of (members v G)) j)) (sym (child_loop w i F l'))
-        (subst (Related R bs (F i)) (sym (child_loop v j G m'))
-        (related_build R bs ws vs (λ is. f (i ∷ is)) (λ is. g (j ∷ is)) (omega arith) (omega arith) (h.1 (omega arith) (omega arith))
-            (λ is js p q c. r (i ∷ is) (j ∷ js) (l', p) (m', q) (a, c))))) )
+    let G : ℕ → Tree = λ i. build vs (λ is. g (i ∷ is)) in (
+      (λ is l m. turns_loop w F ∙ (h.0 is (subst (λ n. 0 < n) (turns_loop w F) l) (subst (λ n. 0 < n) (turns_loop v G) m) ∙ sym (turns_loop v G))),
+      (λ i j l m a.
+          let l' : i < w = subst (λ n. i < n) (turns_loop w F) l in
+          let m' : j < v = subst (λ n. j < n) (turns_loop v G) m in
+          subst (λ x. Related R bs x (child (loop_of (members v G)) j)) (sym (child_loop w i F l'))
+          (subst (Related R bs (F i)) (sym (child_loop v j G m'))
+          (related_build R bs ws vs (λ is. f (i ∷ is)) (λ is. g (j ∷ is)) (omega arith) (omega arith) (h.1 (omega arith) (omega arith))
+          (λ is js p q c. r (i ∷ is) (j ∷ js) (l', p) (m', q) (a, c))))),
+    )
 
 pub build_widths : (R : Tree → Tree → Type 0) (bs : List Bool) (ws vs : List ℕ) (f g : List ℕ → Tree) → length bs ≡ length ws → length bs ≡ length vs
     → Related R bs (build ws f) (build vs g) → AlongWidths Any bs ws vs
@@ -99,13 +99,14 @@ build_widths R (b ∷ bs) [] vs f g e d h = absurd (omega arith)
 build_widths R (b ∷ bs) (w ∷ ws) [] f g e d h = absurd (omega arith)
 build_widths R (b ∷ bs) (w ∷ ws) (v ∷ vs) f g e d h =
     let F : ℕ → Tree = λ i. build ws (λ is. f (i ∷ is)) in
-    let G : ℕ → Tree = λ i. build vs (λ is. g (i ∷ is)) in
-    ( (λ is l m. sym (turns_loop w F) ∙ (h.0 is (subst (λ n. 0 < n) (sym (turns_loop w F)) l) (subst (λ n. 0 < n) (sym (turns_loop v G)) m) ∙ turns_loop v G))
-    , (λ l m.
-        let k : Related R bs (child (loop_of (members w F)) 0) (child (loop_of (members v G)) 0) =
-            h.1 0 0 (subst (λ n. 0 < n) (sym (turns_loop w F)) l) (subst (λ n. 0 < n) (sym (turns_loop v G)) m) (λ is. refl) in
-        build_widths R bs ws vs (λ is. f (0 ∷ is)) (λ is. g (0 ∷ is)) (omega arith) (omega arith)
-        (subst (λ x. Related R bs x (G 0)) (child_loop w 0 F l) (subst (Related R bs (child (loop_of (members w F)) 0)) (child_loop v 0 G m) k))) )
+    let G : ℕ → Tree = λ i. build vs (λ is. g (i ∷ is)) in (
+      (λ is l m. sym (turns_loop w F) ∙ (h.0 is (subst (λ n. 0 < n) (sym (turns_loop w F)) l) (subst (λ n. 0 < n) (sym (turns_loop v G)) m) ∙ turns_loop v G)),
+      (λ l m.
+          let k : Related R bs (child (loop_of (members w F)) 0) (child (loop_of (members v G)) 0) =
+          h.1 0 0 (subst (λ n. 0 < n) (sym (turns_loop w F)) l) (subst (λ n. 0 < n) (sym (turns_loop v G)) m) (λ is. refl) in
+          build_widths R bs ws vs (λ is. f (0 ∷ is)) (λ is. g (0 ∷ is)) (omega arith) (omega arith)
+          (subst (λ x. Related R bs x (G 0)) (child_loop w 0 F l) (subst (Related R bs (child (loop_of (members w F)) 0)) (child_loop v 0 G m) k))),
+    )
 
 pub build_ways : (R : Tree → Tree → Type 0) (bs : List Bool) (ws vs : List ℕ) (f g : List ℕ → Tree) → length bs ≡ length ws → length bs ≡ length vs
     → Related R bs (build ws f) (build vs g) → (is js : List ℕ) → Within is ws → Within js vs → AgreeWhere bs is js → R (f is) (g js)
@@ -122,7 +123,7 @@ build_ways R (b ∷ bs) (w ∷ ws) (v ∷ vs) f g e d h (i ∷ is) (j ∷ js) p 
     let F : ℕ → Tree = λ i. build ws (λ is. f (i ∷ is)) in
     let G : ℕ → Tree = λ i. build vs (λ is. g (i ∷ is)) in
     let k : Related R bs (child (loop_of (members w F)) i) (child (loop_of (members v G)) j) =
-        h.1 i j (subst (λ n. i < n) (sym (turns_loop w F)) p.0) (subst (λ n. j < n) (sym (turns_loop v G)) q.0) a.0 in
+    h.1 i j (subst (λ n. i < n) (sym (turns_loop w F)) p.0) (subst (λ n. j < n) (sym (turns_loop v G)) q.0) a.0 in
     build_ways R bs ws vs (λ is. f (i ∷ is)) (λ is. g (j ∷ is)) (omega arith) (omega arith)
     (subst (λ x. Related R bs x (G j)) (child_loop w i F p.0) (subst (Related R bs (child (loop_of (members w F)) i)) (child_loop v j G q.0) k))
     is js p.1 q.1 a.1
@@ -137,14 +138,15 @@ related_width R Z z (b ∷ bs) [] vs f g h = absurd h
 related_width R Z z (b ∷ bs) (w ∷ ws) [] f g h = absurd h
 related_width R Z z (b ∷ bs) (w ∷ ws) (v ∷ vs) f g h =
     let F : ℕ → Tree = λ i. build ws (λ is. f (i ∷ is)) in
-    let G : ℕ → Tree = λ i. build vs (λ is. g (i ∷ is)) in
-    ( (λ is l m. turns_loop w F ∙ (h.0 is (subst (λ n. 0 < n) (turns_loop w F) l) (subst (λ n. 0 < n) (turns_loop v G) m) ∙ sym (turns_loop v G)))
-    , (λ i j l m a.
-        let l' : i < w = subst (λ n. i < n) (turns_loop w F) l in
-        let m' : j < v = subst (λ n. j < n) (turns_loop v G) m in
-        subst (λ x. Related R bs x (child (loop_of (members v G)) j)) (sym (child_loop w i F l'))
-        (subst (Related R bs (F i)) (sym (child_loop v j G m'))
-        (related_width R Z z bs ws vs (λ is. f (i ∷ is)) (λ is. g (j ∷ is)) (h.1 (omega arith) (omega arith))))) )
+    let G : ℕ → Tree = λ i. build vs (λ is. g (i ∷ is)) in (
+      (λ is l m. turns_loop w F ∙ (h.0 is (subst (λ n. 0 < n) (turns_loop w F) l) (subst (λ n. 0 < n) (turns_loop v G) m) ∙ sym (turns_loop v G))),
+      (λ i j l m a.
+          let l' : i < w = subst (λ n. i < n) (turns_loop w F) l in
+          let m' : j < v = subst (λ n. j < n) (turns_loop v G) m in
+          subst (λ x. Related R bs x (child (loop_of (members v G)) j)) (sym (child_loop w i F l'))
+          (subst (Related R bs (F i)) (sym (child_loop v j G m'))
+          (related_width R Z z bs ws vs (λ is. f (i ∷ is)) (λ is. g (j ∷ is)) (h.1 (omega arith) (omega arith))))),
+    )
 
 pub width_related : (R : Tree → Tree → Type 0) (Z : ℕ → ℕ → Type 0) → ((w v : ℕ) (f g : ℕ → Tree) → R (loop_of (members w f)) (loop_of (members v g)) → Z w v)
     → (bs : List Bool) (ws vs : List ℕ) (f g : List ℕ → Tree) → length bs < length ws → length bs < length vs
@@ -156,13 +158,14 @@ width_related R Z z (b ∷ bs) [] vs f g e d h = absurd (omega arith)
 width_related R Z z (b ∷ bs) (w ∷ ws) [] f g e d h = absurd (omega arith)
 width_related R Z z (b ∷ bs) (w ∷ ws) (v ∷ vs) f g e d h =
     let F : ℕ → Tree = λ i. build ws (λ is. f (i ∷ is)) in
-    let G : ℕ → Tree = λ i. build vs (λ is. g (i ∷ is)) in
-    ( (λ is l m. sym (turns_loop w F) ∙ (h.0 is (subst (λ n. 0 < n) (sym (turns_loop w F)) l) (subst (λ n. 0 < n) (sym (turns_loop v G)) m) ∙ turns_loop v G))
-    , (λ l m.
-        let k : Related R bs (child (loop_of (members w F)) 0) (child (loop_of (members v G)) 0) =
-            h.1 0 0 (subst (λ n. 0 < n) (sym (turns_loop w F)) l) (subst (λ n. 0 < n) (sym (turns_loop v G)) m) (λ is. refl) in
-        width_related R Z z bs ws vs (λ is. f (0 ∷ is)) (λ is. g (0 ∷ is)) (omega arith) (omega arith)
-        (subst (λ x. Related R bs x (G 0)) (child_loop w 0 F l) (subst (Related R bs (child (loop_of (members w F)) 0)) (child_loop v 0 G m) k))) )
+    let G : ℕ → Tree = λ i. build vs (λ is. g (i ∷ is)) in (
+      (λ is l m. sym (turns_loop w F) ∙ (h.0 is (subst (λ n. 0 < n) (sym (turns_loop w F)) l) (subst (λ n. 0 < n) (sym (turns_loop v G)) m) ∙ turns_loop v G)),
+      (λ l m.
+          let k : Related R bs (child (loop_of (members w F)) 0) (child (loop_of (members v G)) 0) =
+          h.1 0 0 (subst (λ n. 0 < n) (sym (turns_loop w F)) l) (subst (λ n. 0 < n) (sym (turns_loop v G)) m) (λ is. refl) in
+          width_related R Z z bs ws vs (λ is. f (0 ∷ is)) (λ is. g (0 ∷ is)) (omega arith) (omega arith)
+          (subst (λ x. Related R bs x (G 0)) (child_loop w 0 F l) (subst (Related R bs (child (loop_of (members w F)) 0)) (child_loop v 0 G m) k))),
+    )
 
 -- ---- the widths of a tree
 
@@ -193,8 +196,8 @@ built zero t loops even = refl
 built (suc n) t loops even =
     loop_children t (loops 0 (omega arith))
     ∙ ap loop_of (members_same (turns t) (child t) (λ i. build (members n (λ k. width t (suc k))) (pick (child t i))) (λ i l.
-        let some : 0 < turns t = omega arith in
-        built n (child t i) (λ k m. loops (suc k) (omega (arith, m)) i l) (λ k m. (even (suc k) (omega (arith, m))).1 i i l l (λ is. refl))
-        ∙ ap (λ ws. build ws (pick (child t i))) (members_same n (width (child t i)) (λ k. width t (suc k)) (λ k m.
-            even_width k (child t i) (child t 0) (λ j q. (even (suc j) (omega (arith, m, q))).1 i 0 l some (λ is. absurd (cc)))
-            ∙ sym (width_below t k some)))))
+    let some : 0 < turns t = omega arith in
+    built n (child t i) (λ k m. loops (suc k) (omega (arith, m)) i l) (λ k m. (even (suc k) (omega (arith, m))).1 i i l l (λ is. refl))
+    ∙ ap (λ ws. build ws (pick (child t i))) (members_same n (width (child t i)) (λ k. width t (suc k)) (λ k m.
+    even_width k (child t i) (child t 0) (λ j q. (even (suc j) (omega (arith, m, q))).1 i 0 l some (λ is. absurd (cc)))
+    ∙ sym (width_below t k some)))))

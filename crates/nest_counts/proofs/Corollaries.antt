@@ -1,6 +1,6 @@
 -- What follows for trees that have the kinds of a part.
-use Rattle.std.proofs.Common.{◌≡◌, ap, ℕ, length}
-use Rattle.nest_counts.specs.HasKinds.{HasKinds, IsLoop, turns}
+use Rattle.std.proofs.Common.{◌≡◌, ap}
+use Rattle.nest_counts.specs.HasKinds.{IsLoop, turns}
 use Rattle.nest_counts.specs.Laws.{KnownCountsHold, TakenLoopsAreRectangular, DirectivesKeepKinds}
 use Rattle.canonical_nests.specs.Kinds.{known_count}
 use Rattle.nest_counts.proofs.Ways.{each_both}

@@ -1,6 +1,6 @@
 -- Functions of the trees at a depth, one after another.
-use Rattle.std.proofs.Common.{◌≡◌, refl, sym, ap, ◌∙◌, subst, ℕ, zero, suc, ◌+◌, ◌-◌, ◌<◌, ◌≤◌, List, [], ◌∷◌, ◌++◌, map, length, take, drop, ◌⊎◌, inl, inr, get_or, arith}
-use Rattle.c_semantics.specs.Loops.IterationTrees.{Tree, body, do_all, loop, Trees, no_trees, more_trees, to_list, of_list, do_of, children, nth, on_children, at_depth}
+use Rattle.std.proofs.Common.{◌≡◌, refl, ap, ◌∙◌, ℕ, zero, suc, ◌+◌, List, [], ◌∷◌, map, length, arith}
+use Rattle.c_semantics.specs.Loops.IterationTrees.{Tree, body, do_all, loop, Trees, no_trees, more_trees, to_list, of_list, nth, on_children, at_depth}
 use Rattle.c_semantics.specs.Loops.Transformations.{as_one}
 use Rattle.nest_counts.proofs.Ways.{to_of}
 

@@ -1,15 +1,15 @@
 -- What two ways through an interchanged nest find.
-use Rattle.std.proofs.Common.{◌≡◌, refl, sym, ap, ◌∙◌, subst, ℕ, zero, suc, ◌+◌, ◌-◌, ◌<◌, ◌≤◌, List, [], ◌∷◌, ◌++◌, map, length, drop, Bool, true, false, ◌⊎◌, inl, inr, get_or, arith}
+use Rattle.std.proofs.Common.{◌≡◌, refl, sym, ap, ◌∙◌, subst, ℕ, zero, suc, ◌+◌, ◌-◌, ◌<◌, ◌≤◌, List, [], ◌∷◌, map, length, Bool, true, false, ◌⊎◌, inl, inr, get_or, arith}
 use Rattle.std.specs.Prelude.{◌==◌, if◌then◌else◌}
-use Rattle.std.proofs.lemmas.Bool.{eqb-true, eq-eqb, ne_eqb}
-use Rattle.c_semantics.specs.Loops.IterationTrees.{Tree, loop, no_trees, loop_of, members, width, widths, pick, build}
+use Rattle.std.proofs.lemmas.Bool.{eq-eqb, ne_eqb}
+use Rattle.c_semantics.specs.Loops.IterationTrees.{Tree, loop, no_trees, members, width, widths, pick, build}
 use Rattle.c_semantics.specs.Loops.Transformations.{place_of, old_order, any_zero, interchanged}
-use Rattle.nest_counts.specs.HasKinds.{IsLoop, turns, child, EachBelow, Related, SameTurns}
+use Rattle.nest_counts.specs.HasKinds.{IsLoop, turns, child, EachBelow, Related}
 use Rattle.nest_counts.specs.Plans.{IsOrder}
 use Rattle.nest_counts.proofs.Ways.{none_flagged}
 use Rattle.nest_counts.proofs.Built.{Within, AgreeWhere, AlongWidths, Heads, Any, related_build, build_widths, build_ways, related_width, width_related, length_members, turns_loop, width_below}
 use Rattle.nest_counts.proofs.Kept.{split_at}
-use Rattle.nest_counts.proofs.Tile.{IsRect, FromLoop, ToLoop, none_along, get_drop}
+use Rattle.nest_counts.proofs.Tile.{IsRect, FromLoop, ToLoop}
 
 -- ---- by place
 
@@ -145,23 +145,23 @@ module _ (ps : List ℕ) (order : IsOrder ps) (t : Tree) (some : EachSome (new_w
       let place : place_of (suc i) ps < length ps = f.0 in
       let at : get_or ps (place_of (suc i) ps) 0 ≡ suc i = f.1 in
       subst (λ w. 0 < w)
-          (new_at ps t (place_of (suc i) ps) place ∙ (ap (width t) (let e : get_or ps (place_of (suc i) ps) 0 - 1 ≡ i = omega arith in e) ∙ sym (members_at (length ps) i (width t) (omega arith))))
-          (some (place_of (suc i) ps) (let ln : length (new_widths ps t) ≡ length ps = length_new ps t in omega arith))
+      (new_at ps t (place_of (suc i) ps) place ∙ (ap (width t) (let e : get_or ps (place_of (suc i) ps) 0 - 1 ≡ i = omega arith in e) ∙ sym (members_at (length ps) i (width t) (omega arith))))
+      (some (place_of (suc i) ps) (let ln : length (new_widths ps t) ≡ length ps = length_new ps t in omega arith))
 
   pub old_within : (q : List ℕ) → Within q (new_widths ps t) → Within (old_order ps q) (widths (length ps) t)
   old_within q h =
       let lw : length (widths (length ps) t) ≡ length ps = length_members (length ps) (width t) in
       let ln : length (new_widths ps t) ≡ length ps = length_new ps t in
       within_all (old_order ps q) (widths (length ps) t) (length_members (length ps) (λ j. get_or q (place_of (j + 1) ps) 0) ∙ sym lw) (λ i l.
-          let one : i + 1 ≡ suc i = omega arith in
-          let f = order.found (suc i) (omega arith) (omega (arith, l, lw)) in
-          let place : place_of (suc i) ps < length ps = f.0 in
-          let at : get_or ps (place_of (suc i) ps) 0 ≡ suc i = f.1 in
-          let small : get_or q (place_of (suc i) ps) 0 < get_or (new_widths ps t) (place_of (suc i) ps) 0 = within_at q (new_widths ps t) (place_of (suc i) ps) h (omega arith) in
-          let left : get_or (old_order ps q) i 0 ≡ get_or q (place_of (suc i) ps) 0 = members_at (length ps) i (λ j. get_or q (place_of (j + 1) ps) 0) (omega (arith, l, lw)) ∙ ap (λ x. get_or q (place_of x ps) 0) one in
-          let right : get_or (widths (length ps) t) i 0 ≡ width t i = members_at (length ps) i (width t) (omega (arith, l, lw)) in
-          let new : get_or (new_widths ps t) (place_of (suc i) ps) 0 ≡ width t i = new_at ps t (place_of (suc i) ps) place ∙ ap (width t) (let e : get_or ps (place_of (suc i) ps) 0 - 1 ≡ i = omega arith in e) in
-          omega (arith, small, left, right, new))
+      let one : i + 1 ≡ suc i = omega arith in
+      let f = order.found (suc i) (omega arith) (omega (arith, l, lw)) in
+      let place : place_of (suc i) ps < length ps = f.0 in
+      let at : get_or ps (place_of (suc i) ps) 0 ≡ suc i = f.1 in
+      let small : get_or q (place_of (suc i) ps) 0 < get_or (new_widths ps t) (place_of (suc i) ps) 0 = within_at q (new_widths ps t) (place_of (suc i) ps) h (omega arith) in
+      let left : get_or (old_order ps q) i 0 ≡ get_or q (place_of (suc i) ps) 0 = members_at (length ps) i (λ j. get_or q (place_of (j + 1) ps) 0) (omega (arith, l, lw)) ∙ ap (λ x. get_or q (place_of x ps) 0) one in
+      let right : get_or (widths (length ps) t) i 0 ≡ width t i = members_at (length ps) i (width t) (omega (arith, l, lw)) in
+      let new : get_or (new_widths ps t) (place_of (suc i) ps) 0 ≡ width t i = new_at ps t (place_of (suc i) ps) place ∙ ap (width t) (let e : get_or ps (place_of (suc i) ps) 0 - 1 ≡ i = omega arith in e) in
+      omega (arith, small, left, right, new))
 
 -- ---- what stands below the taken loops
 
@@ -192,16 +192,16 @@ module _ (ps : List ℕ) (order : IsOrder ps) (t u : Tree) (is_t : IsRect (lengt
       let k : Related R bs (build ws (pick t)) (build vs (pick u)) = subst (λ x. Related R bs x (build vs (pick u))) is_t (subst (Related R bs t) is_u h) in
       let along : AlongWidths Any bs ws vs = build_widths R bs ws vs (pick t) (pick u) (omega arith) (omega arith) k in
       related_build R cs (new_widths ps t) (new_widths ps u) _ _ (lc ∙ sym (length_new ps t)) (lc ∙ sym (length_new ps u))
-          (along_all cs (new_widths ps t) (new_widths ps u) (lc ∙ sym (length_new ps t)) (lc ∙ sym (length_new ps u)) (λ j l e.
-              let l' : j < length ps = omega (arith, l, lc) in
-              let w = order.within j l' in
-              let low : 0 < get_or ps j 0 = w.0 in
-              let high : get_or ps j 0 ≤ length ps = w.1 in
-              new_at ps t j l' ∙ (sym (members_at (length ps) (get_or ps j 0 - 1) (width t) (omega arith))
-              ∙ (along_at bs ws vs (get_or ps j 0 - 1) along (old_some ps order t some) (old_some ps order u some') (omega arith) (omega arith) (sym (flag j l') ∙ e)
-              ∙ (members_at (length ps) (get_or ps j 0 - 1) (width u) (omega arith) ∙ sym (new_at ps u j l'))))))
-          (λ is js p q a. build_ways R bs ws vs (pick t) (pick u) (omega arith) (omega arith) k (old_order ps is) (old_order ps js) (old_within ps order t some is p) (old_within ps order u some' js q)
-              (agree_all bs (old_order ps is) (old_order ps js) (λ i e. agree is js p q a i e (split_at (length ps) i))))
+      (along_all cs (new_widths ps t) (new_widths ps u) (lc ∙ sym (length_new ps t)) (lc ∙ sym (length_new ps u)) (λ j l e.
+      let l' : j < length ps = omega (arith, l, lc) in
+      let w = order.within j l' in
+      let low : 0 < get_or ps j 0 = w.0 in
+      let high : get_or ps j 0 ≤ length ps = w.1 in
+      new_at ps t j l' ∙ (sym (members_at (length ps) (get_or ps j 0 - 1) (width t) (omega arith))
+      ∙ (along_at bs ws vs (get_or ps j 0 - 1) along (old_some ps order t some) (old_some ps order u some') (omega arith) (omega arith) (sym (flag j l') ∙ e)
+      ∙ (members_at (length ps) (get_or ps j 0 - 1) (width u) (omega arith) ∙ sym (new_at ps u j l'))))))
+      (λ is js p q a. build_ways R bs ws vs (pick t) (pick u) (omega arith) (omega arith) k (old_order ps is) (old_order ps js) (old_within ps order t some is p) (old_within ps order u some' js q)
+      (agree_all bs (old_order ps is) (old_order ps js) (λ i e. agree is js p q a i e (split_at (length ps) i))))
     where
       agree : (is js : List ℕ) → Within is (new_widths ps t) → Within js (new_widths ps u) → AgreeWhere cs is js → (i : ℕ) → get_or bs i false ≡ true
           → (i < length ps) ⊎ ((m : ℕ) × (i ≡ length ps + m)) → get_or (old_order ps is) i 0 ≡ get_or (old_order ps js) i 0
@@ -226,6 +226,7 @@ module _ (ps : List ℕ) (order : IsOrder ps) (t u : Tree) (is_t : IsRect (lengt
     where
       some_flags : 0 < length cs
       some_flags = let s : 0 < length ps = order.some in omega arith
+
       by : (interchanged ps t ≡ loop no_trees) × (any_zero (new_widths ps t) ≡ true) ⊎ (interchanged ps t ≡ new_nest ps t) × EachSome (new_widths ps t)
           → (interchanged ps u ≡ loop no_trees) × (any_zero (new_widths ps u) ≡ true) ⊎ (interchanged ps u ≡ new_nest ps u) × EachSome (new_widths ps u)
           → Related R cs (interchanged ps t) (interchanged ps u)
@@ -251,18 +252,19 @@ module _ (ps : List ℕ) (order : IsOrder ps) (t u : Tree) (is_t : IsRect (lengt
         let small : q < length ps = omega arith in
         let k : Related R (none_flagged q) (build ws (pick t)) (build vs (pick u)) = subst (λ x. Related R (none_flagged q) x (build vs (pick u))) is_t (subst (Related R (none_flagged q) t) is_u h) in
         let old : Z (get_or ws q 0) (get_or vs q 0) =
-            heads_at Z q ws vs (width_related R Z from (none_flagged q) ws vs (pick t) (pick u) (omega (arith, lq, lw, small)) (omega (arith, lq, lv, small)) k) (old_some ps order t some) (old_some ps order u some') in
+        heads_at Z q ws vs (width_related R Z from (none_flagged q) ws vs (pick t) (pick u) (omega (arith, lq, lw, small)) (omega (arith, lq, lv, small)) k) (old_some ps order t some) (old_some ps order u some') in
         let left : get_or ws q 0 ≡ get_or (new_widths ps t) j 0 = members_at (length ps) q (width t) small ∙ sym (new_at ps t j l) in
         let right : get_or vs q 0 ≡ get_or (new_widths ps u) j 0 = members_at (length ps) q (width u) small ∙ sym (new_at ps u j l) in
         related_width Q Y to (none_flagged j) (new_widths ps t) (new_widths ps u) _ _
-            (heads_from Y j (new_widths ps t) (new_widths ps u) (let n : length (new_widths ps t) ≡ length ps = length_new ps t in omega arith) (let n : length (new_widths ps u) ≡ length ps = length_new ps u in omega arith)
-                (subst (λ x. Y x (get_or (new_widths ps u) j 0)) left (subst (Y (get_or ws q 0)) right (step _ _ old))))
+        (heads_from Y j (new_widths ps t) (new_widths ps u) (let n : length (new_widths ps t) ≡ length ps = length_new ps t in omega arith) (let n : length (new_widths ps u) ≡ length ps = length_new ps u in omega arith)
+        (subst (λ x. Y x (get_or (new_widths ps u) j 0)) left (subst (Y (get_or ws q 0)) right (step _ _ old))))
 
     pub interchanged_taken : 0 < j → ((w v : ℕ) → Z w v → Y w v) → Related R (none_flagged (get_or ps j 0 - 1)) t u → Related Q (none_flagged j) (interchanged ps t) (interchanged ps u)
     interchanged_taken later step h = by (nest_or_none ps t) (nest_or_none ps u)
       where
         some_flags : 0 < length (none_flagged j)
         some_flags = let e : length (none_flagged j) ≡ j = length_members j (λ i. false) in omega arith
+
         by : (interchanged ps t ≡ loop no_trees) × (any_zero (new_widths ps t) ≡ true) ⊎ (interchanged ps t ≡ new_nest ps t) × EachSome (new_widths ps t)
             → (interchanged ps u ≡ loop no_trees) × (any_zero (new_widths ps u) ≡ true) ⊎ (interchanged ps u ≡ new_nest ps u) × EachSome (new_widths ps u)
             → Related Q (none_flagged j) (interchanged ps t) (interchanged ps u)
@@ -283,6 +285,7 @@ first_loop ps t l = by (nest_or_none ps t)
     nest_loop : (qs : List ℕ) (f : List ℕ → Tree) → 0 < length qs → IsLoop (build (map (λ p. width t (p - 1)) qs) f)
     nest_loop [] f m = absurd (omega arith)
     nest_loop (q ∷ qs) f m = tt
+
     by : (interchanged ps t ≡ loop no_trees) × (any_zero (new_widths ps t) ≡ true) ⊎ (interchanged ps t ≡ new_nest ps t) × EachSome (new_widths ps t) → IsLoop (interchanged ps t)
     by (inl (e, z)) = subst IsLoop (sym e) tt
     by (inr (e, s)) = subst IsLoop (sym e) (nest_loop ps (λ q. pick t (old_order ps q)) l)

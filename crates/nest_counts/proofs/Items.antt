@@ -1,5 +1,5 @@
 -- A directive's items keep the kinds of the parts on which they act.
-use Rattle.std.proofs.Common.{◌≡◌, refl, sym, ap, ◌∙◌, subst, ℕ, zero, suc, ◌+◌, ◌-◌, ◌<◌, ◌≤◌, List, [], ◌∷◌, ◌++◌, map, length, take, drop, Option, Some, None, ◌⊎◌, inl, inr, get_or, arith, length-append}
+use Rattle.std.proofs.Common.{◌≡◌, refl, sym, ap, ◌∙◌, subst, ℕ, zero, suc, ◌+◌, ◌-◌, ◌<◌, List, [], ◌∷◌, ◌++◌, length, take, Some, None, ◌⊎◌, inl, inr, get_or, arith, length-append}
 use Rattle.c_semantics.specs.Loops.IterationTrees.{Tree, nth, no_tree, at_depth}
 use Rattle.c_semantics.specs.Loops.Transformations as trees
 use Rattle.c_semantics.specs.Loops.Transformations.{Transformation, tile, interchange, reverse_, split, fuse, unroll_full, unroll_partial, Plan, plan, Applied, none_applied, applied_at, as_one, transform, apply_plan, apply_items}
@@ -47,6 +47,7 @@ below_has (suc j) k i g f ks t e h p = subst (λ m. PartsHave (as_one_part m ks 
         each : (n : ℕ) → n < 1 → HasKinds (get_or (q ∷ []) n no_part) (at_depth k (λ u. nth n (at_depth (suc j) (λ v. as_one (f (v ∷ []))) u ∷ [])) t)
         each zero l = subst (HasKinds q) (sym (at_add k (suc j) i (λ v. as_one (f (v ∷ []))) t e)) x
         each (suc n) l = absurd (omega arith)
+
     by : (qs : List Part) → PartsHave qs i (λ u. f (u ∷ [])) t → PartsHave (as_one_part i ks qs) k (λ u. at_depth (suc j) (λ v. as_one (f (v ∷ []))) u ∷ []) t
     by [] p = here (settled (take i ks)) (left_above i ks (λ v. as_one (f (v ∷ []))) t h)
     by (q ∷ []) p = here q (subst (λ F. HasKinds q (at_depth i F t)) (λ z v. sym (one_part (f (v ∷ [])) (p.many v)) z) (p.each 0 (omega arith)))
@@ -116,6 +117,7 @@ placed_has i k g h ps f t has l new = record { many = many; each = λ j m. by j 
   where
     within : (u : Tree) → i < length (f u)
     within u = let e : length (f u) ≡ length ps = has.many u in omega arith
+
     many : (u : Tree) → length (trees.at_part i h (f u)) ≡ length (kinds.at_part i g ps)
     many u =
         let a : length (trees.at_part i h (f u)) ≡ i + (length (h (nth i (f u))) + (length (f u) - i - 1)) = trees_length i h (f u) (within u) in
@@ -123,6 +125,7 @@ placed_has i k g h ps f t has l new = record { many = many; each = λ j m. by j 
         let c : length (h (nth i (f u))) ≡ length (g (get_or ps i no_part)) = new.many (nth i (f u)) in
         let d : length (f u) ≡ length ps = has.many u in
         omega arith
+
     after : (j m : ℕ) → j ≡ i + m → j < length (kinds.at_part i g ps) → (m < length (g (get_or ps i no_part))) ⊎ ((n : ℕ) × (m ≡ length (g (get_or ps i no_part)) + n))
         → HasKinds (get_or (kinds.at_part i g ps) j no_part) (at_depth k (λ u. nth j (trees.at_part i h (f u))) t)
     after j m e b (inl n) =
@@ -134,6 +137,7 @@ placed_has i k g h ps f t has l new = record { many = many; each = λ j m. by j 
         subst (λ q. HasKinds q (at_depth k (λ u. nth j (trees.at_part i h (f u))) t)) (sym (kinds_later i g ps j n (omega arith) l))
         (subst (λ F. HasKinds (get_or ps (suc i + n) no_part) (at_depth k F t)) (λ z u. sym (trees_later i h (f u) j n (let c : length (h (nth i (f u))) ≡ length (g (get_or ps i no_part)) = new.many (nth i (f u)) in omega arith) (within u)) z)
         (has.each (suc i + n) (omega arith)))
+
     by : (j : ℕ) → j < length (kinds.at_part i g ps) → (j < i) ⊎ ((m : ℕ) × (j ≡ i + m)) → HasKinds (get_or (kinds.at_part i g ps) j no_part) (at_depth k (λ u. nth j (trees.at_part i h (f u))) t)
     by j b (inl m) =
         subst (λ q. HasKinds q (at_depth k (λ u. nth j (trees.at_part i h (f u))) t)) (sym (kinds_before i g ps j m l))
@@ -171,6 +175,6 @@ mutual
   items_has c none_applied k ps f t h finds = h
   items_has c (applied_at p d w) k ps f t h finds =
       items_has c w k (kinds.on_position c p k (plan_kinds d) ps) (λ u. trees.on_position c p (apply_plan d) (f u)) t
-          (position_has c p k ps f t (plan_kinds d) (apply_plan d) h finds.0
-              (λ x y. plan_has d (loops_round c k p) (get_or ps (place c p) no_part ∷ []) (λ u. u ∷ []) x (single (get_or ps (place c p) no_part) (loops_round c k p) x y) finds.1))
-          finds.2
+      (position_has c p k ps f t (plan_kinds d) (apply_plan d) h finds.0
+      (λ x y. plan_has d (loops_round c k p) (get_or ps (place c p) no_part ∷ []) (λ u. u ∷ []) x (single (get_or ps (place c p) no_part) (loops_round c k p) x y) finds.1))
+      finds.2

@@ -1,12 +1,11 @@
 -- What keeps the counts of a tree, and what a transformation below k loops owes.
-use Rattle.std.proofs.Common.{◌≡◌, refl, sym, ap, ◌∙◌, subst, ℕ, zero, suc, ◌+◌, ◌-◌, ◌<◌, ◌≤◌, List, [], ◌∷◌, ◌++◌, map, length, take, drop, Option, Some, None, Bool, true, false, ◌⊎◌, inl, inr, arith}
-use Rattle.c_semantics.specs.Loops.IterationTrees.{Tree, on_children, at_depth}
+use Rattle.std.proofs.Common.{◌≡◌, refl, sym, ap, ◌∙◌, subst, ℕ, zero, suc, ◌+◌, ◌<◌, ◌≤◌, List, [], ◌++◌, map, length, take, Option, Some, None, Bool, ◌⊎◌, inl, inr, arith}
+use Rattle.c_semantics.specs.Loops.IterationTrees.{Tree, at_depth}
 use Rattle.c_semantics.specs.Loops.Transformations.{Transformation}
 use Rattle.canonical_nests.specs.declared.nest.CountKind.{CountKind}
-use Rattle.canonical_nests.specs.declared.nest.CountKind.TheVariants.{Known, Entry, Depends}
 use Rattle.canonical_nests.specs.Kinds.{Part, depends_on, moved, known_count, position_up_to, settled, kind_at, positions_below}
-use Rattle.nest_counts.specs.HasKinds.{is_among, flags, IsLoop, turns, child, EachBelow, Related, SameTurns, HasCount, HasKinds}
-use Rattle.nest_counts.proofs.Ways.{turns_on, loop_on, each_above, related_above, each_at, each_above_below, each_more, related_more, related_each, related_at, related_join, related_split, none_flagged, free_of_each, each_both, each_below}
+use Rattle.nest_counts.specs.HasKinds.{flags, IsLoop, turns, child, EachBelow, Related, SameTurns, HasCount, HasKinds}
+use Rattle.nest_counts.proofs.Ways.{turns_on, loop_on, each_above, related_above, each_at, each_above_below, each_more, related_more, related_each, related_at, related_join, related_split, none_flagged, each_both, each_below}
 use Rattle.nest_counts.proofs.Places.{kind_map, kind_take, kind_after, length_take_on, length_kinds, known_moved, length_flags, flags_moved, up_to_from, ComesFrom, flags_add, later_flags}
 
 -- a loop stands above a depth, or so many loops further down
@@ -56,7 +55,7 @@ count_below P R K f k m n t as' bs at each loops known len split rel same = reco
   same =
       let each' : EachBelow P (length as') t = subst (λ j. EachBelow P j t) (sym len) each in
       let near : Related (λ x y. Related SameTurns bs (f x) (f y)) as' t t =
-          related_more (λ x y. P x × P y × R x y) (λ x y. Related SameTurns bs (f x) (f y)) as' t t (λ x y q. same x y q.0 q.1 q.2) (related_each P R as' t t each' each' rel) in
+      related_more (λ x y. P x × P y × R x y) (λ x y. Related SameTurns bs (f x) (f y)) as' t t (λ x y q. same x y q.0 q.1 q.2) (related_each P R as' t t each' each' rel) in
       let far : Related (Related SameTurns bs) as' (at_depth (length as') f t) (at_depth (length as') f t) = related_at (Related SameTurns bs) f as' t t near in
       subst (λ cs. Related SameTurns cs (at_depth k f t) (at_depth k f t)) (sym split)
       (related_join SameTurns as' bs (at_depth k f t) (at_depth k f t) (subst (λ j. Related (Related SameTurns bs) as' (at_depth j f t) (at_depth j f t)) len far));
@@ -78,13 +77,14 @@ part_has c k ks below f t h enough from new =
   where
     new_length : k ≤ length (map (moved (positions_below k c)) ks)
     new_length = subst (λ m. k ≤ m) (sym (length_kinds (moved (positions_below k c)) ks)) enough
+
     by : (n : ℕ) → n < length (take k (map (moved (positions_below k c)) ks) ++ below) → (n < k) ⊎ ((j : ℕ) × (n ≡ k + j))
         → HasCount (kind_at (take k (map (moved (positions_below k c)) ks) ++ below) n) n (at_depth k f t)
     by n l (inl m) =
         subst (λ K. HasCount K n (at_depth k f t)) (sym (kind_take k (map (moved (positions_below k c)) ks) below n m new_length ∙ kind_map (moved (positions_below k c)) ks n refl))
         (count_above (moved (positions_below k c) (kind_at ks n)) f n k t m
         (count_as (kind_at ks n) (moved (positions_below k c) (kind_at ks n)) n t (known_moved (positions_below k c) (kind_at ks n))
-            (flags_moved (positions_below k c) n (kind_at ks n) (λ p z q. from p z (omega (arith, q, m)))) (h n (omega (arith, m, enough)))))
+        (flags_moved (positions_below k c) n (kind_at ks n) (λ p z q. from p z (omega (arith, q, m)))) (h n (omega (arith, m, enough)))))
     by n l (inr (j, e)) =
         let total : length (take k (map (moved (positions_below k c)) ks) ++ below) ≡ k + length below = length_take_on k (map (moved (positions_below k c)) ks) below new_length in
         subst (λ K. HasCount K n (at_depth k f t)) (sym (kind_after k (map (moved (positions_below k c)) ks) below j n e new_length))
@@ -104,19 +104,19 @@ each_known : (o : Option ℕ) (k j : ℕ) (t : Tree) → ((v : ℕ) → o ≡ So
 each_known None k j t h = each_any (λ x. (v : ℕ) → None ≡ Some v → EachBelow (λ u. turns u ≡ v) j x) k t (λ x v e. absurd (cc))
 each_known (Some w) k j t h =
     each_more (EachBelow (λ u. turns u ≡ w) j) (λ x. (v : ℕ) → Some w ≡ Some v → EachBelow (λ u. turns u ≡ v) j x) k t
-        (λ x q v e. subst (λ z. EachBelow (λ u. turns u ≡ z) j x) (let i : w ≡ v = cc in i) q) (h w refl)
+    (λ x q v e. subst (λ z. EachBelow (λ u. turns u ≡ z) j x) (let i : w ≡ v = cc in i) q) (h w refl)
 
 pub near : (K : CountKind) (k j n : ℕ) (t : Tree) → n ≡ k + j → HasCount K n t → EachBelow (Near K j) k t
 near K k j n t e h =
     each_both (EachBelow IsLoop j) (λ x. (v : ℕ) → known_count K ≡ Some v → EachBelow (λ u. turns u ≡ v) j x) k t
-        (each_below IsLoop k j n t e h.loops)
-        (each_known (known_count K) k j t (λ v q. each_below (λ u. turns u ≡ v) k j n t e (h.known v q)))
+    (each_below IsLoop k j n t e h.loops)
+    (each_known (known_count K) k j t (λ v q. each_below (λ u. turns u ≡ v) k j n t e (h.known v q)))
 
 pub near_related : (K : CountKind) (k j n : ℕ) (t : Tree) → n ≡ k + j → HasCount K n t
     → Related (Related SameTurns (later_flags k j (depends_on K))) (flags k (depends_on K)) t t
 near_related K k j n t e h =
     related_split SameTurns (flags k (depends_on K)) (later_flags k j (depends_on K)) t t
-        (subst (λ bs. Related SameTurns bs t t) (flags_add k j n (depends_on K) e) h.same)
+    (subst (λ bs. Related SameTurns bs t t) (flags_add k j n (depends_on K) e) h.same)
 
 -- the loop that was j loops down is m loops down, and what is known of its count stays
 pub count_moved : (K L : CountKind) (f : Tree → Tree) (k j m n p : ℕ) (t : Tree) (Q : Tree → Type 0) → n ≡ k + j → p ≡ k + m → HasCount K n t → EachBelow Q k t
@@ -127,13 +127,13 @@ pub count_moved : (K L : CountKind) (f : Tree → Tree) (k j m n p : ℕ) (t : T
     → HasCount L p (at_depth k f t)
 count_moved K L f k j m n p t Q from to h q known deps loops counts rel =
     count_below (λ x. Q x × Near K j x) (Related SameTurns (later_flags k j (depends_on K))) L f k m p t (flags k (depends_on K)) (later_flags k m (depends_on L)) to
-        (each_both Q (Near K j) k t q (near K k j n t from h))
-        (λ x w. loops x w.0 w.1.0)
-        (λ v e x w. counts v x w.0 (w.1.1 v (sym known ∙ e)))
-        (length_flags k (depends_on K))
-        (flags_add k m p (depends_on L) to ∙ ap (λ bs. bs ++ later_flags k m (depends_on L)) deps)
-        (near_related K k j n t from h)
-        (λ x y w z. rel x y w.0 z.0)
+    (each_both Q (Near K j) k t q (near K k j n t from h))
+    (λ x w. loops x w.0 w.1.0)
+    (λ v e x w. counts v x w.0 (w.1.1 v (sym known ∙ e)))
+    (length_flags k (depends_on K))
+    (flags_add k m p (depends_on L) to ∙ ap (λ bs. bs ++ later_flags k m (depends_on L)) deps)
+    (near_related K k j n t from h)
+    (λ x y w z. rel x y w.0 z.0)
 
 -- the first loop at the depth has another count, which the old one tells
 pub count_changed : (K L : CountKind) (f : Tree → Tree) (k : ℕ) (t : Tree) (many : ℕ → ℕ) → HasCount K k t → flags k (depends_on L) ≡ flags k (depends_on K)
@@ -142,9 +142,9 @@ pub count_changed : (K L : CountKind) (f : Tree → Tree) (k : ℕ) (t : Tree) (
     → HasCount L (k + 0) (at_depth k f t)
 count_changed K L f k t many h deps loops takes known =
     count_below (Near K 0) SameTurns L f k 0 (k + 0) t (flags k (depends_on K)) [] refl (near K k 0 k t (let e : k ≡ k + 0 = omega arith in e) h)
-        (λ x w. loops x)
-        (λ v e x w. let q = known v e in takes x ∙ (ap many (w.1 q.0 q.1.0) ∙ q.1.1))
-        (length_flags k (depends_on K))
-        (flags_add k 0 (k + 0) (depends_on L) refl ∙ ap (λ bs. bs ++ []) deps)
-        h.same
-        (λ x y w z e. takes x ∙ (ap many e ∙ sym (takes y)))
+    (λ x w. loops x)
+    (λ v e x w. let q = known v e in takes x ∙ (ap many (w.1 q.0 q.1.0) ∙ q.1.1))
+    (length_flags k (depends_on K))
+    (flags_add k 0 (k + 0) (depends_on L) refl ∙ ap (λ bs. bs ++ []) deps)
+    h.same
+    (λ x y w z e. takes x ∙ (ap many e ∙ sym (takes y)))

@@ -1,11 +1,11 @@
 -- Positions of loops before and after a transformation, and what a part says at each place.
-use Rattle.std.proofs.Common.{◌≡◌, refl, sym, ap, ◌∙◌, subst, ℕ, zero, suc, ◌+◌, ◌-◌, ◌<◌, ◌≤◌, List, [], ◌∷◌, ◌++◌, map, length, take, drop, Option, Some, None, Bool, true, false, get_or, arith, ltb, leb}
-use Rattle.std.specs.Prelude.{◌==◌, ◌||◌, nat_lt, nat_le, flat_map, if◌then◌else◌}
-use Rattle.std.proofs.lemmas.Bool.{eqb-true, eq-eqb, ne_eqb, cond-true, cond-false}
+use Rattle.std.proofs.Common.{◌≡◌, refl, sym, ap, ◌∙◌, ℕ, zero, suc, ◌+◌, ◌<◌, ◌≤◌, List, [], ◌∷◌, ◌++◌, map, length, take, drop, None, Bool, true, false, arith}
+use Rattle.std.specs.Prelude.{◌==◌, nat_lt, nat_le, flat_map, if◌then◌else◌}
+use Rattle.std.proofs.lemmas.Bool.{eqb-true, ne_eqb}
 use Rattle.c_semantics.specs.Loops.IterationTrees.{members}
 use Rattle.canonical_nests.specs.declared.nest.CountKind.{CountKind}
 use Rattle.canonical_nests.specs.declared.nest.CountKind.TheVariants.{Known, Entry, Depends}
-use Rattle.canonical_nests.specs.Kinds.{Part, with_position, ascending, depends_on, some_or_entry, on_positions, moved, known_count, position_up_to, settled, kind_at}
+use Rattle.canonical_nests.specs.Kinds.{Part, with_position, ascending, depends_on, some_or_entry, on_positions, moved, known_count, position_up_to, kind_at}
 use Rattle.nest_counts.specs.HasKinds.{is_among, flags}
 use Rattle.nest_counts.proofs.Built.{length_members, members_same}
 
@@ -63,11 +63,13 @@ among_with p q (r ∷ rs) = by (nat_lt q r) (q == r) refl (among_with p q rs)
     swap true false c = refl
     swap false true c = refl
     swap false false c = refl
+
     twice : (a b c : Bool) → a ≡ b → (if a then true else c) ≡ (if b then true else if a then true else c)
     twice true true c e = refl
     twice true false c e = refl
     twice false true c e = absurd (cc)
     twice false false c e = refl
+
     by : (l b : Bool) → (q == r) ≡ b → is_among p (with_position q rs) ≡ (if p == q then true else is_among p rs)
         → is_among p (if l then q ∷ r ∷ rs else if b then r ∷ rs else r ∷ with_position q rs) ≡ (if p == q then true else if p == r then true else is_among p rs)
     by true b e h = refl

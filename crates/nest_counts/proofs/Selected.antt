@@ -1,10 +1,9 @@
 -- A loop that takes some turns of another, in an order that the number of turns tells: what reverse and split make.
-use Rattle.std.proofs.Common.{◌≡◌, refl, sym, ap, ◌∙◌, subst, ℕ, zero, suc, ◌+◌, ◌-◌, ◌<◌, ◌≤◌, List, [], ◌∷◌, map, reverse, length, take, drop, Option, Some, None, Bool, true, false, get_or, arith, length-drop}
+use Rattle.std.proofs.Common.{◌≡◌, refl, sym, ap, ◌∙◌, subst, ℕ, zero, suc, ◌+◌, ◌-◌, ◌<◌, List, [], ◌∷◌, reverse, length, take, drop, Bool, true, arith, length-drop}
 use Rattle.std.specs.Prelude.{min}
 use Rattle.std.proofs.lemmas.List.{get_or-reverse, length-reverse}
-use Rattle.c_semantics.specs.Loops.IterationTrees.{Tree, loop_of, children, no_tree, nth, at_depth}
-use Rattle.c_semantics.specs.Loops.Transformations.{cut, filled, split_up, known_counts}
-use Rattle.nest_counts.specs.HasKinds.{IsLoop, turns, child, EachBelow, Related, SameTurns}
+use Rattle.c_semantics.specs.Loops.IterationTrees.{Tree, loop_of, children, no_tree, nth}
+use Rattle.nest_counts.specs.HasKinds.{IsLoop, turns, child, EachBelow, Related}
 use Rattle.nest_counts.proofs.Ways.{to_of}
 
 -- f takes the turns that the number of turns tells
@@ -25,19 +24,20 @@ pub related_selected : (f : Tree → Tree) (s : Selects f) (R : Tree → Tree �
     → Related R (b ∷ bs) t u → Related R (b ∷ bs) (f t) (f u)
 related_selected f s R b bs t u h =
     let same : b ≡ true → 0 < turns (f t) → 0 < turns (f u) → turns t ≡ turns u = λ is l m.
-        let l' : 0 < s.many (turns t) = subst (λ w. 0 < w) (s.takes_many t) l in
-        let m' : 0 < s.many (turns u) = subst (λ w. 0 < w) (s.takes_many u) m in
-        let p : s.which (turns t) 0 < turns t = s.within (turns t) 0 l' in
-        let q : s.which (turns u) 0 < turns u = s.within (turns u) 0 m' in
-        h.0 is (omega arith) (omega arith) in
-    ( (λ is l m. s.takes_many t ∙ (ap s.many (same is l m) ∙ sym (s.takes_many u)))
-    , (λ i j l m e.
-        let l' : i < s.many (turns t) = subst (λ w. i < w) (s.takes_many t) l in
-        let m' : j < s.many (turns u) = subst (λ w. j < w) (s.takes_many u) m in
-        subst (λ x. Related R bs x (child (f u) j)) (sym (s.takes_which t i l'))
-        (subst (Related R bs (child t (s.which (turns t) i))) (sym (s.takes_which u j m'))
-        (h.1 (s.which (turns t) i) (s.which (turns u) j) (s.within (turns t) i l') (s.within (turns u) j m')
-            (λ is. (λ k. s.which (same is (omega arith) (omega arith) k) (e is k)))))) )
+    let l' : 0 < s.many (turns t) = subst (λ w. 0 < w) (s.takes_many t) l in
+    let m' : 0 < s.many (turns u) = subst (λ w. 0 < w) (s.takes_many u) m in
+    let p : s.which (turns t) 0 < turns t = s.within (turns t) 0 l' in
+    let q : s.which (turns u) 0 < turns u = s.within (turns u) 0 m' in
+    h.0 is (omega arith) (omega arith) in (
+      (λ is l m. s.takes_many t ∙ (ap s.many (same is l m) ∙ sym (s.takes_many u))),
+      (λ i j l m e.
+          let l' : i < s.many (turns t) = subst (λ w. i < w) (s.takes_many t) l in
+          let m' : j < s.many (turns u) = subst (λ w. j < w) (s.takes_many u) m in
+          subst (λ x. Related R bs x (child (f u) j)) (sym (s.takes_which t i l'))
+          (subst (Related R bs (child t (s.which (turns t) i))) (sym (s.takes_which u j m'))
+          (h.1 (s.which (turns t) i) (s.which (turns u) j) (s.within (turns t) i l') (s.within (turns u) j m')
+          (λ is. (λ k. s.which (same is (omega arith) (omega arith) k) (e is k)))))),
+    )
 
 -- ---- reverse
 

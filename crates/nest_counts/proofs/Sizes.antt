@@ -1,7 +1,6 @@
 -- Numbers of tiles, and what is in one.
-use Rattle.std.proofs.Common.{◌≡◌, refl, sym, ap, ◌∙◌, subst, ℕ, zero, suc, ◌+◌, ◌-◌, ◌*◌, ◌/◌, ◌%◌, ◌<◌, ◌≤◌, arith}
-use Rattle.std.specs.Prelude.{min}
-use Rattle.std.proofs.Math.Nat.{div-add-mod, mod-add-div, mul-le-mul_right}
+use Rattle.std.proofs.Common.{◌≡◌, refl, ℕ, zero, suc, ◌+◌, ◌*◌, ◌/◌, ◌%◌, ◌<◌, ◌≤◌, arith}
+use Rattle.std.proofs.Math.Nat.{div-add-mod, mul-le-mul_right}
 use Rattle.c_semantics.specs.Loops.Transformations.{div_up, rest}
 
 -- a tile begins before the end

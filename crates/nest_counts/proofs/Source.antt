@@ -1,6 +1,6 @@
 -- A source loop has the kind that its bounds say, and what is below it keeps its kinds.
-use Rattle.std.proofs.Common.{◌≡◌, refl, sym, ap, ◌∙◌, subst, ℕ, zero, suc, ◌+◌, ◌-◌, ◌<◌, ◌≤◌, List, [], ◌∷◌, ◌++◌, map, length, Option, Some, None, Result, Ok, Err, Bool, true, false, ℤ, arith, ◌⊎◌, inl, inr}
-use Rattle.std.specs.Prelude.{◌&&◌, ◌==◌, nat_abs, if◌then◌else◌}
+use Rattle.std.proofs.Common.{◌≡◌, refl, sym, ap, ◌∙◌, subst, ℕ, zero, suc, ◌+◌, ◌<◌, List, [], ◌∷◌, map, length, Option, Some, None, Result, Ok, Bool, true, false, ℤ, arith, ◌⊎◌, inl, inr}
+use Rattle.std.specs.Prelude.{◌&&◌, if◌then◌else◌}
 use Rattle.c_tree.specs.Bare.{Name, Expr, num, read, item, un, bin, cond, cast, Head}
 use Rattle.c_tree.specs.declared.arithmetic.Trap.{Trap}
 use Rattle.c_tree.specs.Arithmetic.{and_then, convert, un_type, bin_type, common, apply_un, apply_bin, is_zero, settles, unless_settled}
@@ -13,7 +13,7 @@ use Rattle.c_semantics.specs.Loops.Transformations.{as_one}
 use Rattle.c_semantics.specs.Loops.Forest.{loop_over, enter}
 use Rattle.c_semantics.specs.Structure.Skeleton.{source_count, range_count}
 use Rattle.canonical_nests.specs.declared.nest.CountKind.{CountKind}
-use Rattle.canonical_nests.specs.declared.nest.CountKind.TheVariants.{Known, Entry, Depends}
+use Rattle.canonical_nests.specs.declared.nest.CountKind.TheVariants.{Entry}
 use Rattle.canonical_nests.specs.Kinds.{Part, depends_on, moved, known_count, kind_at, same_kind}
 use Rattle.canonical_nests.specs.Shapes.{source_kind, one_further_in, below_source}
 use Rattle.nest_counts.specs.HasKinds.{is_among, flags, IsLoop, turns, child, EachBelow, Related, SameTurns, HasCount, HasKinds}
@@ -70,9 +70,9 @@ module _ (ds : List Define) (s u : State) (same : (x : Name) → is_define ds x 
   entry_same : (c : Canonical) → only_constants ds c.lb ≡ true → only_constants ds c.ub ≡ true → loop_type ds s c ≡ loop_type ds u c → entry ds s c ≡ entry ds u c
   entry_same c hl hu ty =
       (λ i. and_then (value_same c.lb hl i) (λ z. and_then (convert (ty i) z) (λ lb.
-          and_then (value_same c.ub hu i) (λ z. and_then (convert (ty i) z) (λ ub.
-          and_then (count c.test c.step lb ub) (λ n.
-          Ok (record { var = c.var; ty = ty i; from = lb; step = c.step; count = n })))))))
+      and_then (value_same c.ub hu i) (λ z. and_then (convert (ty i) z) (λ ub.
+      and_then (count c.test c.step lb ub) (λ n.
+      Ok (record { var = c.var; ty = ty i; from = lb; step = c.step; count = n })))))))
 
 -- a known count is the one with which the loop is entered
 pub source_known : (ds : List Define) (scope s : State) (h : Head) (r : Range) (v : ℕ) → SaysAlike ds scope s h → enter ds s (canonical ds h) ≡ Ok r → known_count (source_kind ds scope h) ≡ Some v → r.count ≡ v
@@ -81,8 +81,10 @@ source_known ds scope s h r v alike e k = by (canonical ds h) refl e k
     count_kind : (o : Option ℕ) → known_count (same_kind Entry o) ≡ o
     count_kind None = refl
     count_kind (Some n) = refl
+
     counted : (a : Result Range Trap) → a ≡ Ok r → range_count a ≡ Some v → r.count ≡ v
     counted a e k = let f : Some r.count ≡ Some v = sym (ap range_count e) ∙ k in cc
+
     by : (o : Option Canonical) → canonical ds h ≡ o → enter ds s o ≡ Ok r → known_count (same_kind Entry (source_count ds scope o)) ≡ Some v → r.count ≡ v
     by None d e k = absurd (cc)
     by (Some c) d e k = bounds (only_constants ds c.lb) (only_constants ds c.ub) refl refl (sym (count_kind (source_count ds scope (Some c))) ∙ k)
@@ -131,13 +133,14 @@ each_put P z (suc n) t kept h = λ i l.
 
 related_put : (z y : ℤ) (bs : List Bool) (t u : Tree) → Related SameTurns bs t u → Related SameTurns bs (put z t) (put y u)
 related_put z y [] t u h = put_turns z t ∙ (h ∙ sym (put_turns y u))
-related_put z y (b ∷ bs) t u h =
-    ( (λ is l m. put_turns z t ∙ (h.0 is (subst (λ w. 0 < w) (put_turns z t) l) (subst (λ w. 0 < w) (put_turns y u) m) ∙ sym (put_turns y u)))
-    , (λ i j l m e.
-        let l' : i < turns t = subst (λ w. i < w) (put_turns z t) l in
-        let m' : j < turns u = subst (λ w. j < w) (put_turns y u) m in
-        subst (λ x. Related SameTurns bs x (child (put y u) j)) (sym (put_child z t i l'))
-        (subst (Related SameTurns bs (put z (child t i))) (sym (put_child y u j m')) (related_put z y bs (child t i) (child u j) (h.1 i j l' m' e)))) )
+related_put z y (b ∷ bs) t u h = (
+  (λ is l m. put_turns z t ∙ (h.0 is (subst (λ w. 0 < w) (put_turns z t) l) (subst (λ w. 0 < w) (put_turns y u) m) ∙ sym (put_turns y u))),
+  (λ i j l m e.
+      let l' : i < turns t = subst (λ w. i < w) (put_turns z t) l in
+      let m' : j < turns u = subst (λ w. j < w) (put_turns y u) m in
+      subst (λ x. Related SameTurns bs x (child (put y u) j)) (sym (put_child z t i l'))
+      (subst (Related SameTurns bs (put z (child t i))) (sym (put_child y u j m')) (related_put z y bs (child t i) (child u j) (h.1 i j l' m' e)))),
+)
 
 -- ---- the loop
 
@@ -164,14 +167,17 @@ further_has ks K r t h known (suc m) l =
     subst (λ N. HasCount N (suc m) (loop_of (members r.count f))) (sym (kind_map (moved (λ p. (p + 1) ∷ [])) ks m refl)) (record {
       loops = λ i x. within IsLoop m i f x (each_put IsLoop (value_at r i) m t (put_loop (value_at r i)) h'.loops);
       known = λ v e i x. within (λ u. turns u ≡ v) m i f x (each_put (λ u. turns u ≡ v) (value_at r i) m t (λ u q. put_turns (value_at r i) u ∙ q) (h'.known v (sym (known_moved (λ p. (p + 1) ∷ []) L) ∙ e)));
-      same = ((λ is x y. refl), (λ i j x y e.
-          let x' : i < r.count = subst (λ w. i < w) (turns_loop r.count f) x in
-          let y' : j < r.count = subst (λ w. j < w) (turns_loop r.count f) y in
-          subst (λ a. Related SameTurns (members m (λ p. is_among (suc (suc p)) (depends_on M))) a (child (loop_of (members r.count f)) j)) (sym (child_loop r.count i f x'))
-          (subst (Related SameTurns (members m (λ p. is_among (suc (suc p)) (depends_on M))) (f i)) (sym (child_loop r.count j f y'))
-          (subst (λ bs. Related SameTurns bs (f i) (f j))
-              (sym (members_same m (λ p. is_among (suc (suc p)) (depends_on M)) (λ p. is_among (suc p) (depends_on L)) (λ p q. among_moved (λ p. (p + 1) ∷ []) (suc (suc p)) (suc p) L (further_from (suc p)))))
-              (related_put (value_at r i) (value_at r j) (flags m (depends_on L)) t t h'.same)))));
+      same = (
+        (λ is x y. refl),
+        (λ i j x y e.
+            let x' : i < r.count = subst (λ w. i < w) (turns_loop r.count f) x in
+            let y' : j < r.count = subst (λ w. j < w) (turns_loop r.count f) y in
+            subst (λ a. Related SameTurns (members m (λ p. is_among (suc (suc p)) (depends_on M))) a (child (loop_of (members r.count f)) j)) (sym (child_loop r.count i f x'))
+            (subst (Related SameTurns (members m (λ p. is_among (suc (suc p)) (depends_on M))) (f i)) (sym (child_loop r.count j f y'))
+            (subst (λ bs. Related SameTurns bs (f i) (f j))
+            (sym (members_same m (λ p. is_among (suc (suc p)) (depends_on M)) (λ p. is_among (suc p) (depends_on L)) (λ p q. among_moved (λ p. (p + 1) ∷ []) (suc (suc p)) (suc p) L (further_from (suc p)))))
+            (related_put (value_at r i) (value_at r j) (flags m (depends_on L)) t t h'.same)))),
+      );
     })
   where
     within : (P : Tree → Type 0) (m i : ℕ) (f : ℕ → Tree) → i < turns (loop_of (members r.count f)) → EachBelow P m (f i) → EachBelow P m (child (loop_of (members r.count f)) i)

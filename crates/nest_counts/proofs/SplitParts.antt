@@ -1,5 +1,5 @@
 -- The parts that split makes.
-use Rattle.std.proofs.Common.{◌≡◌, refl, sym, ap, ◌∙◌, subst, ℕ, zero, suc, ◌+◌, ◌-◌, ◌<◌, ◌≤◌, List, [], ◌∷◌, map, length, take, drop, Option, Some, None, get_or, arith}
+use Rattle.std.proofs.Common.{◌≡◌, refl, sym, ap, ◌∙◌, ℕ, zero, suc, ◌+◌, ◌-◌, ◌<◌, List, [], ◌∷◌, map, length, drop, Option, Some, None, get_or, arith}
 use Rattle.std.specs.Prelude.{min}
 use Rattle.c_semantics.specs.Loops.IterationTrees.{Tree, children, nth}
 use Rattle.c_semantics.specs.Loops.Transformations.{cut, filled, split_up, known_counts}
@@ -45,7 +45,7 @@ sizes_of cs w = map (filled (w - known_counts cs)) cs
 abbrev pub split_selects : (cs : List (Option ℕ)) (j : ℕ) → j < length cs → Selects (λ t. nth j (split_up cs t))
 split_selects cs j l =
     stretch_selects (λ w. earlier j (sizes_of cs w)) (λ w. get_or (sizes_of cs w) j 0) (λ t. nth j (split_up cs t))
-        (λ t. nth_cut j (sizes_of cs (turns t)) (children t) (let e : length (sizes_of cs (turns t)) ≡ length cs = length_filled (turns t - known_counts cs) cs in omega arith))
+    (λ t. nth_cut j (sizes_of cs (turns t)) (children t) (let e : length (sizes_of cs (turns t)) ≡ length cs = length_filled (turns t - known_counts cs) cs in omega arith))
 
 clipped_at : (n j : ℕ) (cs : List ℕ) → j < length cs → get_or (clipped n cs) j 0 ≡ min (get_or cs j 0) (n - earlier j cs)
 clipped_at n j [] l = absurd (omega arith)
@@ -81,15 +81,18 @@ pub split_says : (K : CountKind) (cs : List (Option ℕ)) (j : ℕ) (l : j < len
     × ((v : ℕ) → known_count (same_kind K (get_or (split_counts (known_count K) cs) j None)) ≡ Some v → (w : ℕ) × ((known_count K ≡ Some w) × (min (get_or (sizes_of cs w) j 0) (w - earlier j (sizes_of cs w)) ≡ v)))
 split_says (Known n) cs j l =
     let m : j < length (clipped n (sizes_of cs n)) = let e : length (clipped n (sizes_of cs n)) ≡ length cs = length_clipped n (sizes_of cs n) ∙ length_filled (n - known_counts cs) cs in omega arith in
-    let s : get_or (split_counts (Some n) cs) j None ≡ Some (get_or (clipped n (sizes_of cs n)) j 0) = some_at (clipped n (sizes_of cs n)) j m in
-    ( ap (λ o. depends_on (same_kind (Known n) o)) s
-    , (λ v e.
-        let k : Some (get_or (clipped n (sizes_of cs n)) j 0) ≡ Some v = sym (ap (λ o. known_count (same_kind (Known n) o)) s) ∙ e in
-        let i : get_or (clipped n (sizes_of cs n)) j 0 ≡ v = cc in
-        (n, (refl, sym (clipped_at n j (sizes_of cs n) (let d : length (sizes_of cs n) ≡ length cs = length_filled (n - known_counts cs) cs in omega arith)) ∙ i))) )
-split_says Entry cs j l =
-    ( ap (λ o. depends_on (same_kind Entry o)) (none_at cs j)
-    , (λ v e. absurd (let k : None ≡ Some v = sym (ap (λ o. known_count (same_kind Entry o)) (none_at cs j)) ∙ e in cc)) )
-split_says (Depends ps) cs j l =
-    ( ap (λ o. depends_on (same_kind (Depends ps) o)) (none_at cs j)
-    , (λ v e. absurd (let k : None ≡ Some v = sym (ap (λ o. known_count (same_kind (Depends ps) o)) (none_at cs j)) ∙ e in cc)) )
+    let s : get_or (split_counts (Some n) cs) j None ≡ Some (get_or (clipped n (sizes_of cs n)) j 0) = some_at (clipped n (sizes_of cs n)) j m in (
+      ap (λ o. depends_on (same_kind (Known n) o)) s,
+      (λ v e.
+          let k : Some (get_or (clipped n (sizes_of cs n)) j 0) ≡ Some v = sym (ap (λ o. known_count (same_kind (Known n) o)) s) ∙ e in
+          let i : get_or (clipped n (sizes_of cs n)) j 0 ≡ v = cc in
+          (n, (refl, sym (clipped_at n j (sizes_of cs n) (let d : length (sizes_of cs n) ≡ length cs = length_filled (n - known_counts cs) cs in omega arith)) ∙ i))),
+    )
+split_says Entry cs j l = (
+  ap (λ o. depends_on (same_kind Entry o)) (none_at cs j),
+  (λ v e. absurd (let k : None ≡ Some v = sym (ap (λ o. known_count (same_kind Entry o)) (none_at cs j)) ∙ e in cc)),
+)
+split_says (Depends ps) cs j l = (
+  ap (λ o. depends_on (same_kind (Depends ps) o)) (none_at cs j),
+  (λ v e. absurd (let k : None ≡ Some v = sym (ap (λ o. known_count (same_kind (Depends ps) o)) (none_at cs j)) ∙ e in cc)),
+)

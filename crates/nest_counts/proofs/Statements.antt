@@ -1,7 +1,7 @@
 -- The trees of a statement have the kinds of its parts.
-use Rattle.std.proofs.Common.{◌≡◌, refl, sym, ap, ◌∙◌, subst, ℕ, zero, suc, ◌+◌, ◌<◌, ◌≤◌, List, [], ◌∷◌, ◌++◌, map, length, Option, Some, None, Result, Ok, Err, arith, ◌⊎◌, inl, inr, get_or}
+use Rattle.std.proofs.Common.{◌≡◌, refl, sym, ap, ◌∙◌, subst, ℕ, zero, suc, ◌+◌, ◌<◌, List, [], ◌∷◌, ◌++◌, length, Result, Ok, Err, arith, inl, inr}
 use Rattle.std.proofs.lemmas.List.{append-nil}
-use Rattle.c_tree.specs.Bare.{Directive, directive, Stmt, decl, set, step, print, input, if_, if_else, while_, do_, for_, block, break_, continue_, empty, omp, call, Stmts, no_stmts, more_stmts, Head, head}
+use Rattle.c_tree.specs.Bare.{Stmt, for_, block, omp, Stmts, no_stmts, more_stmts, Head, head}
 use Rattle.c_tree.specs.declared.arithmetic.Trap.{Trap}
 use Rattle.c_tree.specs.Arithmetic.{and_then}
 use Rattle.c_tree.specs.declared.tree.Kind.{Kind}
@@ -10,19 +10,19 @@ use Rattle.c_semantics.specs.Meaning.State.{State}
 use Rattle.c_semantics.specs.Meaning.Expressions.{Define}
 use Rattle.c_semantics.specs.Loops.CanonicalForm.{canonical}
 use Rattle.c_semantics.specs.Loops.TripCount.{Range}
-use Rattle.c_semantics.specs.Loops.IterationTrees.{Tree, body, nth, no_tree}
+use Rattle.c_semantics.specs.Loops.IterationTrees.{Tree, no_tree}
 use Rattle.c_semantics.specs.Loops.Transformations.{Plan, apply_plan}
 use Rattle.c_semantics.specs.Loops.Directives.{plan_of}
 use Rattle.c_semantics.specs.Loops.Need.{loops_asked}
 use Rattle.c_semantics.specs.Loops.StatementDepths.{kind_of}
-use Rattle.c_semantics.specs.Loops.Forest.{enter, both_lists, or_body, bodies, loop_over, nest, nest_all, forest}
+use Rattle.c_semantics.specs.Loops.Forest.{enter, both_lists, or_body, bodies, loop_over, nest, nest_all}
 use Rattle.c_semantics.specs.Structure.Skeleton.{scope_in}
-use Rattle.canonical_nests.specs.Kinds.{Part, no_part, plan_kinds}
+use Rattle.canonical_nests.specs.Kinds.{Part, plan_kinds}
 use Rattle.canonical_nests.specs.Shapes as shapes
 use Rattle.canonical_nests.specs.Shapes.{source_kind, below_source, stmt_kinds, single_kinds, member_kinds, body_kinds}
 use Rattle.nest_counts.specs.HasKinds.{HasKinds}
 use Rattle.nest_counts.specs.Plans.{Beside, Finds, PartsHave}
-use Rattle.nest_counts.specs.Statements.{SaysAlike, found_by, IsLoopStmt, StmtFinds, SingleFinds, MembersFind, ConstructFinds}
+use Rattle.nest_counts.specs.Statements.{SaysAlike, found_by, IsLoopStmt, StmtFinds, SingleFinds, MembersFind}
 use Rattle.nest_counts.specs.Laws.{ConstructsHaveKinds}
 use Rattle.nest_counts.proofs.Transformed.{beside, beside_at, beside_length, beside_append}
 use Rattle.nest_counts.proofs.Items.{plan_has}
@@ -86,7 +86,7 @@ omp_gives r p k one all S M ts single members finds e =
     let is : apply_plan p q.0 ≡ ts = let f : Ok (apply_plan p q.0) ≡ Ok ts = q.1.1 in cc in
     subst (Beside HasKinds (plan_kinds p 0 (shapes.found_by k one all))) is
     (plan_beside p (shapes.found_by k one all) q.0
-        (found_beside k one all (S × (0 < length one)) M q.0 (λ h. some_beside one q.0 (single q.0 q.1.0 h.0) h.1) (members q.0 q.1.0) finds.0) finds.1)
+    (found_beside k one all (S × (0 < length one)) M q.0 (λ h. some_beside one q.0 (single q.0 q.1.0 h.0) h.1) (members q.0 q.1.0) finds.0) finds.1)
 
 alone_gives : (r : Result (List Tree) Trap) (ps : List Part) (ts : List Tree) → ((us : List Tree) → r ≡ Ok us → Gives ps us) → both_lists r (Ok []) ≡ Ok ts → Gives ps ts
 alone_gives r ps ts gives e =
@@ -128,13 +128,13 @@ module _ (ds : List Define) (s : State) where
     stmt_gives scope b (suc m) (for_ (head i o next) a) ts finds e =
         both_ways (for_ (head i o next) a) (stmt_kinds ds scope (suc m) (for_ (head i o next) a)) ts
         (for_gives ds scope s b m (head i o next) (nest_all apply_plan ds s b m a) (single_kinds ds (scope_in i scope) m a) ts finds.0 (none_wanted_at ds (scope_in i scope) m a)
-            (λ us d. single_gives (scope_in i scope) b m a us finds.1 d) e)
+        (λ us d. single_gives (scope_in i scope) b m a us finds.1 d) e)
     stmt_gives scope b (suc m) (block a) ts finds e = (single_gives scope b (suc m) a ts finds e, (λ l. absurd l))
     stmt_gives scope b (suc m) (omp d a) ts finds e =
         both_ways (omp d a) (stmt_kinds ds scope (suc m) (omp d a)) ts
         (omp_gives (nest_all apply_plan ds s b (loops_asked (plan_of ds d) (suc m)) a) (plan_of ds d) (kind_of d) (single_kinds ds scope (loops_asked (plan_of ds d) (suc m)) a) (member_kinds ds scope (loops_asked (plan_of ds d) (suc m)) a)
-            (SingleFinds ds s scope (loops_asked (plan_of ds d) (suc m)) a) (MembersFind ds s scope (loops_asked (plan_of ds d) (suc m)) a) ts
-            (λ us f h. single_gives scope b (loops_asked (plan_of ds d) (suc m)) a us h f) (λ us f h. member_gives scope b (loops_asked (plan_of ds d) (suc m)) a us h f) finds e)
+        (SingleFinds ds s scope (loops_asked (plan_of ds d) (suc m)) a) (MembersFind ds s scope (loops_asked (plan_of ds d) (suc m)) a) ts
+        (λ us f h. single_gives scope b (loops_asked (plan_of ds d) (suc m)) a us h f) (λ us f h. member_gives scope b (loops_asked (plan_of ds d) (suc m)) a us h f) finds e)
     stmt_gives scope b (suc m) a ts finds e = (inl refl, (λ l. absurd l))
 
     pub single_gives : (scope : State) (b m : ℕ) (a : Stmts) (ts : List Tree) → SingleFinds ds s scope m a → nest_all apply_plan ds s b m a ≡ Ok ts → Gives (single_kinds ds scope m a) ts
@@ -150,10 +150,10 @@ module _ (ds : List Define) (s : State) where
         alone_beside (nest_all apply_plan ds s b (suc m) a) (member_kinds ds scope (suc m) a) ts (λ us f. member_gives scope b (suc m) a us finds f) e
     member_gives scope b m (more_stmts x as') ts finds e =
         more_beside (nest apply_plan ds s b m x) (nest_all apply_plan ds s (b + bodies ds m x) m as') (stmt_kinds ds scope m x) (member_kinds ds scope m as') ts
-            (λ us f. (stmt_gives scope b m x us finds.1 f).1 finds.0) (λ us f. member_gives scope (b + bodies ds m x) m as' us finds.2 f) e
+        (λ us f. (stmt_gives scope b m x us finds.1 f).1 finds.0) (λ us f. member_gives scope (b + bodies ds m x) m as' us finds.2 f) e
 
 pub constructs_have_kinds : ConstructsHaveKinds
 constructs_have_kinds ds scope s d a ts finds e =
     omp_gives (nest_all apply_plan ds s 0 (loops_asked (plan_of ds d) 0) a) (plan_of ds d) (kind_of d) (single_kinds ds scope (loops_asked (plan_of ds d) 0) a) (member_kinds ds scope (loops_asked (plan_of ds d) 0) a)
-        (SingleFinds ds s scope (loops_asked (plan_of ds d) 0) a) (MembersFind ds s scope (loops_asked (plan_of ds d) 0) a) ts
-        (λ us f h. single_gives ds s scope 0 (loops_asked (plan_of ds d) 0) a us h f) (λ us f h. member_gives ds s scope 0 (loops_asked (plan_of ds d) 0) a us h f) finds e
+    (SingleFinds ds s scope (loops_asked (plan_of ds d) 0) a) (MembersFind ds s scope (loops_asked (plan_of ds d) 0) a) ts
+    (λ us f h. single_gives ds s scope 0 (loops_asked (plan_of ds d) 0) a us h f) (λ us f h. member_gives ds s scope 0 (loops_asked (plan_of ds d) 0) a us h f) finds e

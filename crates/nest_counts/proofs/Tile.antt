@@ -1,11 +1,11 @@
 -- What two ways through a tiled nest find.
-use Rattle.std.proofs.Common.{◌≡◌, refl, sym, ap, ◌∙◌, subst, ℕ, zero, suc, ◌+◌, ◌-◌, ◌*◌, ◌<◌, ◌≤◌, List, [], ◌∷◌, ◌++◌, length, drop, Bool, true, false, get_or, arith, length-drop}
+use Rattle.std.proofs.Common.{◌≡◌, refl, sym, ap, ◌∙◌, subst, ℕ, zero, suc, ◌+◌, ◌*◌, ◌<◌, ◌≤◌, List, [], ◌∷◌, length, drop, Bool, true, false, get_or, arith, length-drop}
 use Rattle.c_semantics.specs.Loops.IterationTrees.{Tree, loop_of, members, width, widths, pick, build}
 use Rattle.c_semantics.specs.Loops.Transformations.{div_up, rest, rests, zip_with, tiled}
-use Rattle.nest_counts.specs.HasKinds.{IsLoop, turns, child, EachBelow, Related, SameTurns}
+use Rattle.nest_counts.specs.HasKinds.{Related}
 use Rattle.nest_counts.specs.Plans.{AllPositive}
 use Rattle.nest_counts.proofs.Ways.{none_flagged}
-use Rattle.nest_counts.proofs.Sizes.{tile_begins, some_tiles, in_tile}
+use Rattle.nest_counts.proofs.Sizes.{some_tiles, in_tile}
 use Rattle.nest_counts.proofs.Built.{Within, AgreeWhere, AlongWidths, Heads, Any, related_build, build_widths, build_ways, related_width, width_related, length_members}
 
 abbrev pub grid : List ℕ → List ℕ → List ℕ
@@ -36,9 +36,10 @@ grid_along P Q [] ws vs ss pos l last h = last h
 grid_along P Q (b ∷ bs) [] vs ss pos l last h = absurd h
 grid_along P Q (b ∷ bs) (w ∷ ws) [] ss pos l last h = absurd h
 grid_along P Q (b ∷ bs) (w ∷ ws) (v ∷ vs) [] pos l last h = absurd (omega arith)
-grid_along P Q (b ∷ bs) (w ∷ ws) (v ∷ vs) (s ∷ ss) pos l last h =
-    ( (λ is k m. ap (λ n. div_up n s) (h.0 is (some_tiles w s pos.0 k) (some_tiles v s pos.0 m)))
-    , (λ k m. grid_along P Q bs ws vs ss pos.1 (omega (arith, l)) last (h.1 (some_tiles w s pos.0 k) (some_tiles v s pos.0 m))) )
+grid_along P Q (b ∷ bs) (w ∷ ws) (v ∷ vs) (s ∷ ss) pos l last h = (
+  (λ is k m. ap (λ n. div_up n s) (h.0 is (some_tiles w s pos.0 k) (some_tiles v s pos.0 m))),
+  (λ k m. grid_along P Q bs ws vs ss pos.1 (omega (arith, l)) last (h.1 (some_tiles w s pos.0 k) (some_tiles v s pos.0 m))),
+)
 
 -- ---- in a tile
 
@@ -46,9 +47,9 @@ pub rests_along : (P Q : List ℕ → List ℕ → Type 0) (bs cs : List Bool) (
     → Within gs (grid ws ss) → Within hs (grid vs ss) → AgreeWhere cs gs hs
     → ((i : ℕ) → i < length bs → get_or bs i false ≡ true → get_or cs i false ≡ true)
     → (P (drop (length bs) ws) (drop (length bs) vs)
-        → Within (drop (length bs) gs) (grid (drop (length bs) ws) (drop (length bs) ss)) → Within (drop (length bs) hs) (grid (drop (length bs) vs) (drop (length bs) ss))
-        → AgreeWhere (drop (length bs) cs) (drop (length bs) gs) (drop (length bs) hs)
-        → Q (rests (drop (length bs) ws) (drop (length bs) ss) (drop (length bs) gs)) (rests (drop (length bs) vs) (drop (length bs) ss) (drop (length bs) hs)))
+    → Within (drop (length bs) gs) (grid (drop (length bs) ws) (drop (length bs) ss)) → Within (drop (length bs) hs) (grid (drop (length bs) vs) (drop (length bs) ss))
+    → AgreeWhere (drop (length bs) cs) (drop (length bs) gs) (drop (length bs) hs)
+    → Q (rests (drop (length bs) ws) (drop (length bs) ss) (drop (length bs) gs)) (rests (drop (length bs) vs) (drop (length bs) ss) (drop (length bs) hs)))
     → AlongWidths P bs ws vs → AlongWidths Q bs (rests ws ss gs) (rests vs ss hs)
 rests_along P Q [] cs ws vs ss gs hs pos l lc p q a more last h = last h p q a
 rests_along P Q (b ∷ bs) cs [] vs ss gs hs pos l lc p q a more last h = absurd h
@@ -59,9 +60,10 @@ rests_along P Q (b ∷ bs) cs (w ∷ ws) (v ∷ vs) (s ∷ ss) (g ∷ gs) [] pos
 rests_along P Q (b ∷ bs) [] (w ∷ ws) (v ∷ vs) (s ∷ ss) (g ∷ gs) (k ∷ hs) pos l lc p q a more last h = absurd (omega arith)
 rests_along P Q (b ∷ bs) (c ∷ cs) (w ∷ ws) (v ∷ vs) (s ∷ ss) (g ∷ gs) (k ∷ hs) pos l lc p q a more last h =
     let some : 0 < w = some_tiles w s pos.0 (omega (arith, p.0)) in
-    let some' : 0 < v = some_tiles v s pos.0 (omega (arith, q.0)) in
-    ( (λ is x y. (λ i. rest (h.0 is some some' i) s (a.0 (more 0 (omega arith) is) i)))
-    , (λ x y. rests_along P Q bs cs ws vs ss gs hs pos.1 (omega (arith, l)) (omega (arith, lc)) p.1 q.1 a.1 (λ i m is. more (suc i) (omega (arith, m)) is) last (h.1 some some')) )
+    let some' : 0 < v = some_tiles v s pos.0 (omega (arith, q.0)) in (
+      (λ is x y. (λ i. rest (h.0 is some some' i) s (a.0 (more 0 (omega arith) is) i))),
+      (λ x y. rests_along P Q bs cs ws vs ss gs hs pos.1 (omega (arith, l)) (omega (arith, lc)) p.1 q.1 a.1 (λ i m is. more (suc i) (omega (arith, m)) is) last (h.1 some some')),
+    )
 
 pub old_within : (ws ss gs is : List ℕ) → length ws ≡ length ss → Within gs (grid ws ss) → Within is (rests ws ss gs) → Within (old_index gs ss is) ws
 old_within [] [] [] [] e p q = tt
@@ -93,12 +95,12 @@ tiled_below R bs ss t u pos e is_t is_u lt lu h =
     let k : Related R bs (build ws (pick t)) (build vs (pick u)) = subst (λ x. Related R bs x (build vs (pick u))) is_t (subst (Related R bs t) is_u h) in
     let along : AlongWidths Any bs ws vs = build_widths R bs ws vs (pick t) (pick u) (omega arith) (omega arith) k in
     related_build (Related R bs) bs (grid ws ss) (grid vs ss) _ _ (e ∙ sym (length_grid ws ss lt)) (e ∙ sym (length_grid vs ss lu))
-        (grid_along Any Any bs ws vs ss pos (omega arith) (λ x. tt) along)
-        (λ gs hs p q a.
-            related_build R bs (rests ws ss gs) (rests vs ss hs) _ _ (e ∙ sym (length_rests ws ss gs lt p)) (e ∙ sym (length_rests vs ss hs lu q))
-            (rests_along Any Any bs bs ws vs ss gs hs pos (omega arith) (omega arith) p q a (λ i l is. is) (λ x y z c. tt) along)
-            (λ is js p' q' a'. build_ways R bs ws vs (pick t) (pick u) (omega arith) (omega arith) k (old_index gs ss is) (old_index hs ss js)
-                (old_within ws ss gs is lt p p') (old_within vs ss hs js lu q q') (old_agree bs ss gs hs is js a a')))
+    (grid_along Any Any bs ws vs ss pos (omega arith) (λ x. tt) along)
+    (λ gs hs p q a.
+    related_build R bs (rests ws ss gs) (rests vs ss hs) _ _ (e ∙ sym (length_rests ws ss gs lt p)) (e ∙ sym (length_rests vs ss hs lu q))
+    (rests_along Any Any bs bs ws vs ss gs hs pos (omega arith) (omega arith) p q a (λ i l is. is) (λ x y z c. tt) along)
+    (λ is js p' q' a'. build_ways R bs ws vs (pick t) (pick u) (omega arith) (omega arith) k (old_index gs ss is) (old_index hs ss js)
+    (old_within ws ss gs is lt p p') (old_within vs ss hs js lu q q') (old_agree bs ss gs hs is js a a')))
 
 -- ---- the loops of the tiles
 
@@ -156,7 +158,7 @@ module _ (R Q : Tree → Tree → Type 0) (Z Y : ℕ → ℕ → Type 0) (from :
       let lw : length ws ≡ length ss = length_members (length ss) (width t) in
       let lv : length vs ≡ length ss = length_members (length ss) (width u) in
       width_related R Z from (none_flagged j) ws vs (pick t) (pick u) (omega arith) (omega arith)
-          (subst (λ x. Related R (none_flagged j) x (build vs (pick u))) is_t (subst (Related R (none_flagged j) t) is_u h))
+      (subst (λ x. Related R (none_flagged j) x (build vs (pick u))) is_t (subst (Related R (none_flagged j) t) is_u h))
 
   pub grid_heads : ((w v : ℕ) → Z w v → Y (div_up w (get_or ss j 0)) (div_up v (get_or ss j 0))) → Related R (none_flagged j) t u
       → AlongWidths (Heads Y) (none_flagged j) (grid (widths (length ss) t) ss) (grid (widths (length ss) u) ss)
@@ -166,9 +168,9 @@ module _ (R Q : Tree → Tree → Type 0) (Z Y : ℕ → ℕ → Type 0) (from :
       let lj : length (none_flagged j) ≡ j = length_members j (λ i. false) in
       let size : get_or (drop (length (none_flagged j)) ss) 0 0 ≡ get_or ss j 0 = get_drop (length (none_flagged j)) ss 0 ∙ ap (λ m. get_or ss m 0) lj in
       grid_along (Heads Z) (Heads Y) (none_flagged j) ws vs ss pos (omega arith)
-          (heads_grid Z Y (drop (length (none_flagged j)) ws) (drop (length (none_flagged j)) vs) (drop (length (none_flagged j)) ss) (omega (arith, length-drop (length (none_flagged j)) ss))
-              (subst (λ s. (w v : ℕ) → Z w v → Y (div_up w s) (div_up v s)) (sym size) step))
-          (heads_of h)
+      (heads_grid Z Y (drop (length (none_flagged j)) ws) (drop (length (none_flagged j)) vs) (drop (length (none_flagged j)) ss) (omega (arith, length-drop (length (none_flagged j)) ss))
+      (subst (λ s. (w v : ℕ) → Z w v → Y (div_up w s) (div_up v s)) (sym size) step))
+      (heads_of h)
 
   -- a grid loop
   pub grid_related : ((w v : ℕ) → Z w v → Y (div_up w (get_or ss j 0)) (div_up v (get_or ss j 0))) → Related R (none_flagged j) t u → Related Q (none_flagged j) (tiled ss t) (tiled ss u)
@@ -188,15 +190,15 @@ module _ (R Q : Tree → Tree → Type 0) (Z Y : ℕ → ℕ → Type 0) (from :
       let size : get_or (drop m ss) 0 0 ≡ get_or ss j 0 = get_drop m ss 0 ∙ ap (λ i. get_or ss i 0) lj in
       let flag : get_or (drop m cs) 0 false ≡ get_or cs j false = get_drop m cs false ∙ ap (λ i. get_or cs i false) lj in
       let step' : (w v g h : ℕ) → Z w v → g < div_up w (get_or (drop m ss) 0 0) → h < div_up v (get_or (drop m ss) 0 0) → (get_or (drop m cs) 0 false ≡ true → g ≡ h) → Y (rest w (get_or (drop m ss) 0 0) g) (rest v (get_or (drop m ss) 0 0) h) =
-          subst (λ s. (w v g h : ℕ) → Z w v → g < div_up w s → h < div_up v s → (get_or (drop m cs) 0 false ≡ true → g ≡ h) → Y (rest w s g) (rest v s h)) (sym size)
-          (subst (λ b. (w v g h : ℕ) → Z w v → g < div_up w (get_or ss j 0) → h < div_up v (get_or ss j 0) → (b ≡ true → g ≡ h) → Y (rest w (get_or ss j 0) g) (rest v (get_or ss j 0) h)) (sym flag) step) in
+      subst (λ s. (w v g h : ℕ) → Z w v → g < div_up w s → h < div_up v s → (get_or (drop m cs) 0 false ≡ true → g ≡ h) → Y (rest w s g) (rest v s h)) (sym size)
+      (subst (λ b. (w v g h : ℕ) → Z w v → g < div_up w (get_or ss j 0) → h < div_up v (get_or ss j 0) → (b ≡ true → g ≡ h) → Y (rest w (get_or ss j 0) g) (rest v (get_or ss j 0) h)) (sym flag) step) in
       related_build (Related Q (none_flagged j)) cs (grid ws ss) (grid vs ss) _ _ (e ∙ sym (length_grid ws ss lw)) (e ∙ sym (length_grid vs ss lv)) along
-          (λ gs hs p q a. related_width Q Y to (none_flagged j) (rests ws ss gs) (rests vs ss hs) _ _
-              (rests_along (Heads Z) (Heads Y) (none_flagged j) cs ws vs ss gs hs pos (omega arith) (omega arith) p q a
-                  (λ i x y. absurd (let n : get_or (none_flagged j) i false ≡ false = none_get j i in cc))
-                  (λ x p' q' a'. heads_rests Z Y (drop m ws) (drop m vs) (drop m ss) (drop m gs) (drop m hs) (drop m cs)
-                      (omega (arith, length-drop m ss)) (omega (arith, length-drop m cs)) step' x p' q' a')
-                  (heads_of h)))
+      (λ gs hs p q a. related_width Q Y to (none_flagged j) (rests ws ss gs) (rests vs ss hs) _ _
+      (rests_along (Heads Z) (Heads Y) (none_flagged j) cs ws vs ss gs hs pos (omega arith) (omega arith) p q a
+      (λ i x y. absurd (let n : get_or (none_flagged j) i false ≡ false = none_get j i in cc))
+      (λ x p' q' a'. heads_rests Z Y (drop m ws) (drop m vs) (drop m ss) (drop m gs) (drop m hs) (drop m cs)
+      (omega (arith, length-drop m ss)) (omega (arith, length-drop m cs)) step' x p' q' a')
+      (heads_of h)))
 
 -- ---- the flag of one loop
 

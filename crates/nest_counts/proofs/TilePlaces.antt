@@ -1,14 +1,13 @@
 -- Where tiling puts loops, and what the kinds of its loops say.
-use Rattle.std.proofs.Common.{◌≡◌, refl, sym, ap, ◌∙◌, subst, ℕ, zero, suc, ◌+◌, ◌-◌, ◌%◌, ◌<◌, ◌≤◌, List, [], ◌∷◌, ◌++◌, map, length, take, drop, Option, Some, None, Bool, true, false, ◌⊎◌, inl, inr, get_or, arith, length-append, length-drop}
-use Rattle.std.specs.Prelude.{◌==◌, nat_lt, nat_le, if◌then◌else◌}
+use Rattle.std.proofs.Common.{◌≡◌, refl, sym, ap, ◌∙◌, ℕ, zero, suc, ◌+◌, ◌-◌, ◌%◌, ◌<◌, ◌≤◌, List, [], ◌∷◌, ◌++◌, map, length, Some, None, Bool, true, false, ◌⊎◌, inl, inr, get_or, arith}
+use Rattle.std.specs.Prelude.{◌==◌, nat_le, if◌then◌else◌}
 use Rattle.std.proofs.lemmas.Bool.{eqb-true, eq-eqb, ne_eqb, leb-true, leb-false}
 use Rattle.c_semantics.specs.Loops.IterationTrees.{members}
-use Rattle.c_semantics.specs.Loops.Transformations.{Transformation, tile, div_up, rest}
+use Rattle.c_semantics.specs.Loops.Transformations.{tile, div_up, rest}
 use Rattle.canonical_nests.specs.declared.nest.CountKind.{CountKind}
 use Rattle.canonical_nests.specs.declared.nest.CountKind.TheVariants.{Known, Entry, Depends}
 use Rattle.canonical_nests.specs.Kinds.{Part, depends_on, known_count, kind_at, positions_below, on_positions, chunk_kind, tile_kind, grid_kinds, tile_kinds}
 use Rattle.nest_counts.specs.HasKinds.{is_among}
-use Rattle.nest_counts.proofs.Ways.{none_flagged}
 use Rattle.nest_counts.proofs.Built.{members_same}
 use Rattle.nest_counts.proofs.Sizes.{whole_tile, only_tile}
 use Rattle.nest_counts.proofs.Places.{ComesFrom, among_on, known_on}
@@ -129,13 +128,19 @@ tile_says g (Known c) s pos = by (nat_le c s) refl (c % s == 0) refl
   where
     by : (a : Bool) → nat_le c s ≡ a → (b : Bool) → (c % s == 0) ≡ b → Fixed g (Known c) s ⊎ Varies g (Known c) s
     by true e b d = inl (record { count = c; all = c; is_known = refl; each = λ a l. only_tile c s a pos (leb-true c s e) l; known = ap (λ x. known_count (if x then Known c else if c % s == 0 then Known s else on_positions (g ∷ []))) e; deps = ap (λ x. depends_on (if x then Known c else if c % s == 0 then Known s else on_positions (g ∷ []))) e })
-    by false e true d = inl (record { count = c; all = s; is_known = refl; each = λ a l. whole_tile c s a pos (eqb-true (c % s) 0 d) l;
-        known = ap (λ x. known_count (if x then Known c else if c % s == 0 then Known s else on_positions (g ∷ []))) e ∙ ap (λ x. known_count (if x then Known s else on_positions (g ∷ []))) d;
-        deps = ap (λ x. depends_on (if x then Known c else if c % s == 0 then Known s else on_positions (g ∷ []))) e ∙ ap (λ x. depends_on (if x then Known s else on_positions (g ∷ []))) d })
+    by false e true d = inl (record {
+      count = c;
+      all = s;
+      is_known = refl;
+      each = λ a l. whole_tile c s a pos (eqb-true (c % s) 0 d) l;
+      known = ap (λ x. known_count (if x then Known c else if c % s == 0 then Known s else on_positions (g ∷ []))) e ∙ ap (λ x. known_count (if x then Known s else on_positions (g ∷ []))) d;
+      deps = ap (λ x. depends_on (if x then Known c else if c % s == 0 then Known s else on_positions (g ∷ []))) e ∙ ap (λ x. depends_on (if x then Known s else on_positions (g ∷ []))) d;
+    })
     by false e false d = inr (record {
-        unknown = ap (λ x. known_count (if x then Known c else if c % s == 0 then Known s else on_positions (g ∷ []))) e ∙ (ap (λ x. known_count (if x then Known s else on_positions (g ∷ []))) d ∙ known_on (g ∷ []));
-        among = λ p. ap (λ x. is_among p (depends_on (if x then Known c else if c % s == 0 then Known s else on_positions (g ∷ [])))) e
-            ∙ (ap (λ x. is_among p (depends_on (if x then Known s else on_positions (g ∷ [])))) d ∙ among_on p (g ∷ [])) })
+      unknown = ap (λ x. known_count (if x then Known c else if c % s == 0 then Known s else on_positions (g ∷ []))) e ∙ (ap (λ x. known_count (if x then Known s else on_positions (g ∷ []))) d ∙ known_on (g ∷ []));
+      among = λ p. ap (λ x. is_among p (depends_on (if x then Known c else if c % s == 0 then Known s else on_positions (g ∷ [])))) e
+          ∙ (ap (λ x. is_among p (depends_on (if x then Known s else on_positions (g ∷ [])))) d ∙ among_on p (g ∷ []));
+    })
 
 -- ---- one flag
 

@@ -1,18 +1,18 @@
 -- Each transformation makes parts that have the kinds that it makes.
-use Rattle.std.proofs.Common.{◌≡◌, refl, sym, ap, ◌∙◌, subst, ℕ, zero, suc, ◌+◌, ◌-◌, ◌<◌, ◌≤◌, List, [], ◌∷◌, ◌++◌, map, length, take, drop, Option, Some, None, Bool, true, false, get_or, arith, length-drop}
+use Rattle.std.proofs.Common.{◌≡◌, refl, sym, ap, ◌∙◌, subst, ℕ, zero, suc, ◌+◌, ◌-◌, ◌<◌, List, [], ◌∷◌, ◌++◌, map, length, take, drop, Option, Some, None, Bool, true, false, get_or, arith, length-drop}
 use Rattle.std.specs.Prelude.{min, max}
 use Rattle.std.proofs.lemmas.List.{get_or-map, length-map}
-use Rattle.c_semantics.specs.Loops.IterationTrees.{Tree, loop_of, do_of, children, nth, members, at_depth}
+use Rattle.c_semantics.specs.Loops.IterationTrees.{Tree, do_of, children, nth, at_depth}
 use Rattle.c_semantics.specs.Loops.Transformations.{Transformation, tile, interchange, reverse_, split, fuse, unroll_full, unroll_partial, transform, split_up, fused, fuse_some, longest, ith_children, tiled, interchanged, unrolled}
 use Rattle.c_semantics.specs.Structure.Parts.{split_counts, all_known, and_known, greatest}
 use Rattle.canonical_nests.specs.declared.nest.CountKind.{CountKind}
-use Rattle.canonical_nests.specs.declared.nest.CountKind.TheVariants.{Known, Entry, Depends}
+use Rattle.canonical_nests.specs.declared.nest.CountKind.TheVariants.{Entry}
 use Rattle.canonical_nests.specs.Kinds as kinds
 use Rattle.canonical_nests.specs.Kinds.{Part, no_part, depends_on, moved, known_count, settled, kind_at, positions_below, same_kind, split_kinds, part_kinds, transformed_kinds, fused_kind, fused_parts}
-use Rattle.nest_counts.specs.HasKinds.{is_among, flags, IsLoop, turns, child, EachBelow, Related, SameTurns, HasCount, HasKinds}
+use Rattle.nest_counts.specs.HasKinds.{is_among, flags, turns, HasKinds}
 use Rattle.nest_counts.specs.Plans.{FindsParts, PartsHave, Beside}
 use Rattle.nest_counts.proofs.Built.{turns_loop}
-use Rattle.nest_counts.proofs.Places.{kind_drop, kind_map, known_moved, flags_moved, ComesFrom, among_append}
+use Rattle.nest_counts.proofs.Places.{kind_drop, kind_map, known_moved, flags_moved}
 use Rattle.nest_counts.proofs.Selected.{reverse_selects, reversed}
 use Rattle.nest_counts.proofs.SplitParts.{split_selects, split_says, sizes_of, earlier, length_cut, length_filled, length_counts}
 use Rattle.nest_counts.proofs.OneLoop.{Stays, selected_part, chunked_part, ended_part}
@@ -20,7 +20,7 @@ use Rattle.nest_counts.proofs.TilePart.{tile_part}
 use Rattle.nest_counts.proofs.TilePlaces.{one_of}
 use Rattle.nest_counts.proofs.InterchangePart.{interchange_part}
 use Rattle.nest_counts.proofs.Depths.{at_compose}
-use Rattle.std.proofs.lemmas.Bool.{leb-true, leb-false}
+use Rattle.std.proofs.lemmas.Bool.{leb-false}
 use Rattle.std.specs.Prelude.{◌==◌, nat_le, if◌then◌else◌}
 
 -- ---- transformations that leave loops at their places
@@ -55,14 +55,16 @@ reverse_has : (k : ℕ) (ks : Part) (t : Tree) → HasKinds ks t → k < length 
 reverse_has k ks t h l =
     subst (λ below. HasKinds (settled (take k (map (moved (positions_below k reverse_)) ks) ++ below)) (at_depth k reversed t)) (sym (head_tail (drop k (map (moved (positions_below k reverse_)) ks)) some))
     (selected_part reverse_ k ks reversed reverse_selects (kind_at (drop k (map (moved (positions_below k reverse_)) ks)) 0) t h l (reverse_stays k)
-        (ap (λ K. flags k (depends_on K)) first ∙ flags_moved (positions_below k reverse_) k (kind_at ks k) (λ p z q. reverse_stays k p z))
-        (λ v e. (v, (sym (known_moved (positions_below k reverse_) (kind_at ks k)) ∙ (ap known_count (sym first) ∙ e), refl))))
+    (ap (λ K. flags k (depends_on K)) first ∙ flags_moved (positions_below k reverse_) k (kind_at ks k) (λ p z q. reverse_stays k p z))
+    (λ v e. (v, (sym (known_moved (positions_below k reverse_) (kind_at ks k)) ∙ (ap known_count (sym first) ∙ e), refl))))
   where
     head_tail : (cs : Part) → 0 < length cs → cs ≡ kind_at cs 0 ∷ drop 1 cs
     head_tail [] l = absurd (omega arith)
     head_tail (c ∷ cs) l = refl
+
     some : 0 < length (drop k (map (moved (positions_below k reverse_)) ks))
     some = omega (arith, length-drop k (map (moved (positions_below k reverse_)) ks), length-map ks (moved (positions_below k reverse_)))
+
     first : kind_at (drop k (map (moved (positions_below k reverse_)) ks)) 0 ≡ moved (positions_below k reverse_) (kind_at ks k)
     first = kind_drop k (map (moved (positions_below k reverse_)) ks) 0 k (let e : k ≡ k + 0 = omega arith in e) ∙ kind_map (moved (positions_below k reverse_)) ks k refl
 
@@ -72,17 +74,20 @@ split_part : (cs : List (Option ℕ)) (k : ℕ) (ks : Part) (t : Tree) → HasKi
 split_part cs k ks t h l j m =
     subst (λ q. HasKinds q (at_depth k (λ u. nth j (split_up cs u)) t)) (sym at)
     (selected_part (split cs) k ks (λ u. nth j (split_up cs u)) (split_selects cs j m) (same_kind (kind_at (drop k (map (moved (positions_below k (split cs))) ks)) 0) (get_or (split_counts (known_count (kind_at (drop k (map (moved (positions_below k (split cs))) ks)) 0)) cs) j None)) t h l (split_stays cs k)
-        (ap (flags k) says.0 ∙ (ap (λ K. flags k (depends_on K)) first ∙ flags_moved (positions_below k (split cs)) k (kind_at ks k) (λ p z q. split_stays cs k p z)))
-        (λ v e. let q = says.1 v e in (q.0, (sym (known_moved (positions_below k (split cs)) (kind_at ks k)) ∙ (ap known_count (sym first) ∙ q.1.0), q.1.1))))
+    (ap (flags k) says.0 ∙ (ap (λ K. flags k (depends_on K)) first ∙ flags_moved (positions_below k (split cs)) k (kind_at ks k) (λ p z q. split_stays cs k p z)))
+    (λ v e. let q = says.1 v e in (q.0, (sym (known_moved (positions_below k (split cs)) (kind_at ks k)) ∙ (ap known_count (sym first) ∙ q.1.0), q.1.1))))
   where
     first : kind_at (drop k (map (moved (positions_below k (split cs))) ks)) 0 ≡ moved (positions_below k (split cs)) (kind_at ks k)
     first = kind_drop k (map (moved (positions_below k (split cs))) ks) 0 k (let e : k ≡ k + 0 = omega arith in e) ∙ kind_map (moved (positions_below k (split cs))) ks k refl
+
     says : (depends_on (same_kind (kind_at (drop k (map (moved (positions_below k (split cs))) ks)) 0) (get_or (split_counts (known_count (kind_at (drop k (map (moved (positions_below k (split cs))) ks)) 0)) cs) j None)) ≡ depends_on (kind_at (drop k (map (moved (positions_below k (split cs))) ks)) 0))
         × ((v : ℕ) → known_count (same_kind (kind_at (drop k (map (moved (positions_below k (split cs))) ks)) 0) (get_or (split_counts (known_count (kind_at (drop k (map (moved (positions_below k (split cs))) ks)) 0)) cs) j None)) ≡ Some v
-            → (w : ℕ) × ((known_count (kind_at (drop k (map (moved (positions_below k (split cs))) ks)) 0) ≡ Some w) × (min (get_or (sizes_of cs w) j 0) (w - earlier j (sizes_of cs w)) ≡ v)))
+        → (w : ℕ) × ((known_count (kind_at (drop k (map (moved (positions_below k (split cs))) ks)) 0) ≡ Some w) × (min (get_or (sizes_of cs w) j 0) (w - earlier j (sizes_of cs w)) ≡ v)))
     says = split_says (kind_at (drop k (map (moved (positions_below k (split cs))) ks)) 0) cs j m
+
     K : CountKind
     K = kind_at (drop k (map (moved (positions_below k (split cs))) ks)) 0
+
     at : get_or (part_kinds (split cs) k ks) j no_part ≡ settled (take k (map (moved (positions_below k (split cs))) ks) ++ (same_kind (kind_at (drop k (map (moved (positions_below k (split cs))) ks)) 0) (get_or (split_counts (known_count (kind_at (drop k (map (moved (positions_below k (split cs))) ks)) 0)) cs) j None) ∷ drop 1 (drop k (map (moved (positions_below k (split cs))) ks))))
     at =
         let C : Part = drop k (map (moved (positions_below k (split cs))) ks) in
@@ -92,8 +97,8 @@ split_part cs k ks t h l j m =
         let li : length (map (λ c. c ∷ drop 1 C) (split_kinds (kind_at C 0) cs)) ≡ length cs = length-map (split_kinds (kind_at C 0) cs) (λ c. c ∷ drop 1 C) ∙ ls in
         get_or-map (λ below. settled (take k (map (moved (positions_below k (split cs))) ks) ++ below)) (map (λ c. c ∷ drop 1 C) (split_kinds (kind_at C 0) cs)) j no_part no_part (omega arith)
         ∙ ap (λ below. settled (take k (map (moved (positions_below k (split cs))) ks) ++ below))
-            (get_or-map (λ c. c ∷ drop 1 C) (split_kinds (kind_at C 0) cs) j Entry no_part (omega arith)
-            ∙ ap (λ c. c ∷ drop 1 C) (get_or-map (same_kind (kind_at C 0)) os j None Entry (omega arith)))
+        (get_or-map (λ c. c ∷ drop 1 C) (split_kinds (kind_at C 0) cs) j Entry no_part (omega arith)
+        ∙ ap (λ c. c ∷ drop 1 C) (get_or-map (same_kind (kind_at C 0)) os j None Entry (omega arith)))
 
 length_split : (cs : List (Option ℕ)) (k : ℕ) (ks : Part) → length (part_kinds (split cs) k ks) ≡ length cs
 length_split cs k ks =
@@ -125,6 +130,7 @@ longest_known (p ∷ ps) (t ∷ ts) cs e h a = first (known_count (kind_at p 0))
         not_empty : (p : Part) (c : ℕ) → known_count (kind_at p 0) ≡ Some c → 0 < length p
         not_empty [] c k = absurd (cc)
         not_empty (x ∷ p) c k = omega arith
+
     first : (o : Option ℕ) → known_count (kind_at p 0) ≡ o → all_known (o ∷ map (λ ks. known_count (kind_at ks 0)) ps) ≡ Some cs
         → ((ds : List ℕ) → all_known (map (λ ks. known_count (kind_at ks 0)) ps) ≡ Some ds → longest ts ≡ greatest ds) → max (turns t) (longest ts) ≡ greatest cs
     first None k a rest = absurd (cc)
@@ -140,6 +146,7 @@ fused_has ps ts e h = by (all_known (map (λ ks. known_count (kind_at ks 0)) ps)
   where
     wide : turns (fused ts) ≡ longest ts
     wide = turns_loop (longest ts) (λ i. do_of (ith_children i ts))
+
     by : (o : Option (List ℕ)) → all_known (map (λ ks. known_count (kind_at ks 0)) ps) ≡ o → HasKinds (fused_kind o ∷ []) (fused ts)
     by None a zero l = record { loops = tt; known = λ v k. absurd (cc); same = refl }
     by None a (suc n) l = absurd (omega arith)
@@ -195,16 +202,18 @@ fuse_beside : (R : Part → Tree → Type 0) (r : Option (ℕ × ℕ)) (ps : Lis
 fuse_beside R None ps ts f h = (f ps ts h, tt)
 fuse_beside R (Some r) ps ts f h =
     beside_append R (take (r.0 - 1) ps) (kinds.fused (take r.1 (drop (r.0 - 1) ps)) ∷ drop (r.0 - 1 + r.1) ps) (take (r.0 - 1) ts) (fused (take r.1 (drop (r.0 - 1) ts)) ∷ drop (r.0 - 1 + r.1) ts)
-        (beside_take R (r.0 - 1) ps ts h)
-        (f (take r.1 (drop (r.0 - 1) ps)) (take r.1 (drop (r.0 - 1) ts)) (beside_take R r.1 (drop (r.0 - 1) ps) (drop (r.0 - 1) ts) (beside_drop R (r.0 - 1) ps ts h)), beside_drop R (r.0 - 1 + r.1) ps ts h)
+    (beside_take R (r.0 - 1) ps ts h)
+    (f (take r.1 (drop (r.0 - 1) ps)) (take r.1 (drop (r.0 - 1) ts)) (beside_take R r.1 (drop (r.0 - 1) ps) (drop (r.0 - 1) ts) (beside_drop R (r.0 - 1) ps ts h)), beside_drop R (r.0 - 1 + r.1) ps ts h)
 
 fuse_has : (r : Option (ℕ × ℕ)) (k : ℕ) (ps : List Part) (f : Tree → List Tree) (t : Tree) → PartsHave ps k f t → k ≡ 0 → PartsHave (fused_parts r ps) k (λ u. fuse_some r (f u)) t
 fuse_has r k ps f t h e = subst (λ i. PartsHave (fused_parts r ps) i (λ u. fuse_some r (f u)) t) (sym e) (record { many = many; each = each })
   where
     many : (u : Tree) → length (fuse_some r (f u)) ≡ length (fused_parts r ps)
     many u = beside_length (λ p x. Unit {0}) (fused_parts r ps) (fuse_some r (f u)) (fuse_beside (λ p x. Unit {0}) r ps (f u) (λ qs us q. tt) (beside (λ p x. Unit {0}) ps (f u) (h.many u) (λ j l. tt)))
+
     old : (j : ℕ) → j < length ps → HasKinds (get_or ps j no_part) (nth j (f t))
     old j l = subst (λ i. HasKinds (get_or ps j no_part) (at_depth i (λ u. nth j (f u)) t)) e (h.each j l)
+
     each : (j : ℕ) → j < length (fused_parts r ps) → HasKinds (get_or (fused_parts r ps) j no_part) (at_depth 0 (λ u. nth j (fuse_some r (f u))) t)
     each j l = beside_at HasKinds (fused_parts r ps) (fuse_some r (f t)) (fuse_beside HasKinds r ps (f t) fused_beside (beside HasKinds ps (f t) (h.many t) old)) j l
 

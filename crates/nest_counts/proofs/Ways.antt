@@ -1,7 +1,7 @@
 -- Trees below loops, and the trees that two ways lead to.
-use Rattle.std.proofs.Common.{◌≡◌, refl, sym, ap, ◌∙◌, subst, ℕ, zero, suc, ◌+◌, ◌-◌, ◌<◌, ◌≤◌, List, [], ◌∷◌, ◌++◌, map, length, Bool, true, false, arith}
-use Rattle.c_semantics.specs.Loops.IterationTrees.{Tree, body, do_all, loop, Trees, to_list, of_list, children, nth, members, on_children, at_depth}
-use Rattle.nest_counts.specs.HasKinds.{IsLoop, turns, child, EachBelow, Related, SameTurns}
+use Rattle.std.proofs.Common.{◌≡◌, refl, sym, ap, ◌∙◌, subst, ℕ, zero, suc, ◌+◌, ◌<◌, List, [], ◌∷◌, ◌++◌, map, length, Bool, false, arith}
+use Rattle.c_semantics.specs.Loops.IterationTrees.{Tree, body, do_all, loop, to_list, of_list, children, nth, members, on_children, at_depth}
+use Rattle.nest_counts.specs.HasKinds.{IsLoop, turns, child, EachBelow, Related}
 
 -- ---- lists of trees
 
@@ -87,15 +87,16 @@ pub related_at : (R : Tree → Tree → Type 0) (f : Tree → Tree) (bs : List B
     → Related R bs (at_depth (length bs) f t) (at_depth (length bs) f u)
 related_at R f [] t u h = h
 related_at R f (b ∷ bs) t u h =
-    let g : Tree → Tree = at_depth (length bs) f in
-    ( (λ is l m.
-        turns_on g t ∙ (h.0 is (subst (λ w. 0 < w) (turns_on g t) l) (subst (λ w. 0 < w) (turns_on g u) m) ∙ sym (turns_on g u)))
-    , (λ i j l m e.
-        let l' : i < turns t = subst (λ w. i < w) (turns_on g t) l in
-        let m' : j < turns u = subst (λ w. j < w) (turns_on g u) m in
-        subst (λ x. Related R bs x (child (on_children g u) j)) (sym (child_on g t i l'))
-        (subst (Related R bs (g (child t i))) (sym (child_on g u j m'))
-        (related_at R f bs (child t i) (child u j) (h.1 i j l' m' e)))) )
+    let g : Tree → Tree = at_depth (length bs) f in (
+      (λ is l m.
+          turns_on g t ∙ (h.0 is (subst (λ w. 0 < w) (turns_on g t) l) (subst (λ w. 0 < w) (turns_on g u) m) ∙ sym (turns_on g u))),
+      (λ i j l m e.
+          let l' : i < turns t = subst (λ w. i < w) (turns_on g t) l in
+          let m' : j < turns u = subst (λ w. j < w) (turns_on g u) m in
+          subst (λ x. Related R bs x (child (on_children g u) j)) (sym (child_on g t i l'))
+          (subst (Related R bs (g (child t i))) (sym (child_on g u j m'))
+          (related_at R f bs (child t i) (child u j) (h.1 i j l' m' e)))),
+    )
 
 pub related_above : (R : Tree → Tree → Type 0) (f : Tree → Tree) (bs : List Bool) (m : ℕ) (t u : Tree) → length bs < m
     → ((g : Tree → Tree) (x y : Tree) → R x y → R (on_children g x) (on_children g y))
@@ -103,15 +104,16 @@ pub related_above : (R : Tree → Tree → Type 0) (f : Tree → Tree) (bs : Lis
 related_above R f bs zero t u less kept h = absurd (omega arith)
 related_above R f [] (suc m) t u less kept h = kept (at_depth m f) t u h
 related_above R f (b ∷ bs) (suc n) t u less kept h =
-    let g : Tree → Tree = at_depth n f in
-    ( (λ is l m.
-        turns_on g t ∙ (h.0 is (subst (λ w. 0 < w) (turns_on g t) l) (subst (λ w. 0 < w) (turns_on g u) m) ∙ sym (turns_on g u)))
-    , (λ i j l m e.
-        let l' : i < turns t = subst (λ w. i < w) (turns_on g t) l in
-        let m' : j < turns u = subst (λ w. j < w) (turns_on g u) m in
-        subst (λ x. Related R bs x (child (on_children g u) j)) (sym (child_on g t i l'))
-        (subst (Related R bs (g (child t i))) (sym (child_on g u j m'))
-        (related_above R f bs n (child t i) (child u j) (omega arith) kept (h.1 i j l' m' e)))) )
+    let g : Tree → Tree = at_depth n f in (
+      (λ is l m.
+          turns_on g t ∙ (h.0 is (subst (λ w. 0 < w) (turns_on g t) l) (subst (λ w. 0 < w) (turns_on g u) m) ∙ sym (turns_on g u))),
+      (λ i j l m e.
+          let l' : i < turns t = subst (λ w. i < w) (turns_on g t) l in
+          let m' : j < turns u = subst (λ w. j < w) (turns_on g u) m in
+          subst (λ x. Related R bs x (child (on_children g u) j)) (sym (child_on g t i l'))
+          (subst (Related R bs (g (child t i))) (sym (child_on g u j m'))
+          (related_above R f bs n (child t i) (child u j) (omega arith) kept (h.1 i j l' m' e)))),
+    )
 
 pub related_split : (R : Tree → Tree → Type 0) (as' bs : List Bool) (t u : Tree) → Related R (as' ++ bs) t u → Related (Related R bs) as' t u
 related_split R [] bs t u h = h

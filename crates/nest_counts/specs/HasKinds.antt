@@ -1,7 +1,7 @@
 -- What the kinds of counts of a part say of an iteration tree (OpenMP 6.0, 6.4.1: the counts of a canonical loop nest; 11:
 -- of the generated loops). The loop at a position of the part is every tree as many loops down as loops stand round it.
 use Rattle.std.specs.Prelude.{ℕ, zero, suc, ◌≡◌, ◌<◌, List, [], ◌∷◌, length, Some, Bool, true, false, ◌==◌, if◌then◌else◌}
-use Rattle.c_semantics.specs.Loops.IterationTrees.{Tree, body, do_all, loop, children, nth, members}
+use Rattle.c_semantics.specs.Loops.IterationTrees.{Tree, loop, children, nth, members}
 use Rattle.canonical_nests.specs.declared.nest.CountKind.{CountKind}
 use Rattle.canonical_nests.specs.Kinds.{Part, kind_at, known_count, depends_on}
 

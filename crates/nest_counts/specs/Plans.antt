@@ -1,6 +1,6 @@
 -- When a directive with its items finds what it takes (OpenMP 6.0, 11: the loops of each loop-transforming construct; `tile`
 -- and `interchange` take rectangular nests).
-use Rattle.std.specs.Prelude.{ℕ, zero, ◌≡◌, ◌+◌, ◌-◌, ◌<◌, ◌≤◌, List, [], ◌∷◌, length, Some, false, get_or}
+use Rattle.std.specs.Prelude.{ℕ, ◌≡◌, ◌+◌, ◌-◌, ◌<◌, ◌≤◌, List, [], ◌∷◌, length, Some, false, get_or}
 use Rattle.c_semantics.specs.Loops.IterationTrees.{Tree, nth, at_depth}
 use Rattle.c_semantics.specs.Loops.Transformations.{Transformation, tile, interchange, split, fuse, place_of, Plan, plan, Applied, none_applied, applied_at}
 use Rattle.canonical_nests.specs.Kinds.{Part, no_part, transformed_kinds, on_position, plan_kinds}

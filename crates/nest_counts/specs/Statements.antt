@@ -1,6 +1,6 @@
 -- When the loops of a statement are what its scope says of them, and each directive in it finds the loops that it takes
 -- (OpenMP 6.0, 6.4: canonical loop nests and canonical loop sequences).
-use Rattle.std.specs.Prelude.{ℕ, zero, suc, ◌≡◌, ◌<◌, List, [], ◌∷◌, length, Option, Some, true}
+use Rattle.std.specs.Prelude.{ℕ, zero, suc, ◌≡◌, ◌<◌, List, length, Some, true}
 use Rattle.c_tree.specs.Bare.{Name, Directive, Stmt, for_, block, omp, Stmts, no_stmts, more_stmts, Head, head}
 use Rattle.c_tree.specs.declared.tree.Kind.{Kind}
 use Rattle.c_tree.specs.declared.tree.Kind.TheVariants.{Fuse}
