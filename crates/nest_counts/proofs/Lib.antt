@@ -18,4 +18,6 @@ pub mod Items
 pub mod Source
 pub mod Statements
 pub mod Bounds
+pub mod Found
+pub mod Orders
 pub mod Corollaries

@@ -1,12 +1,12 @@
 -- What the kinds of counts of a part say of the trees that have them.
-use Rattle.std.specs.Prelude.{ℕ, ◌≡◌, ◌+◌, ◌<◌, ◌≤◌, List, length, Ok, false}
+use Rattle.std.specs.Prelude.{ℕ, ◌≡◌, ◌+◌, ◌<◌, ◌≤◌, List, length, Ok, Some, true, false, get_or}
 use Rattle.c_tree.specs.Bare.{Directive, Stmts}
 use Rattle.c_tree.specs.Placed as placed
 use Rattle.c_semantics.specs.Meaning.State.{State}
 use Rattle.c_semantics.specs.Meaning.Expressions.{Define}
 use Rattle.c_semantics.specs.Meaning.FileVariables.{FunctionAccess}
 use Rattle.c_semantics.specs.Loops.Directives.{plan_of}
-use Rattle.c_semantics.specs.Loops.Need.{loops_asked}
+use Rattle.c_semantics.specs.Loops.Need.{depths, loops_asked}
 use Rattle.c_semantics.specs.Loops.Forest.{forest}
 use Rattle.c_semantics.specs.Loops.IterationTrees.{Tree, widths, pick, build}
 use Rattle.c_semantics.specs.Loops.Transformations.{Plan, apply_plan}
@@ -16,9 +16,13 @@ use Rattle.canonical_nests.specs.LoopRules.Counts.{depend_on_another}
 use Rattle.nest_counts.specs.HasKinds.{HasKinds, IsLoop, turns, EachBelow}
 use Rattle.canonical_nests.specs.Shapes.{body_kinds}
 use Rattle.canonical_nests.specs.LoopRules.BreachSets.{HasNone}
+use Rattle.canonical_nests.specs.LoopRules.PlacedPlans.{PlacedPlan, forget_plan}
+use Rattle.canonical_nests.specs.LoopRules.Clauses.{all_different}
+use Rattle.canonical_nests.specs.LoopRules.Counts as counts
 use Rattle.canonical_nests.specs.LoopRules.Heads as heads
-use Rattle.nest_counts.specs.Plans.{Finds, PartsHave, Beside}
+use Rattle.nest_counts.specs.Plans.{IsOrder, Finds, PartsHave, Beside}
 use Rattle.nest_counts.specs.Statements.{ConstructFinds}
+use Rattle.nest_counts.specs.Found.{ArgumentsFit, lengths_below}
 use Rattle.nest_counts.specs.Bounds.{ConstructBounds}
 
 -- where the count of a loop is known, every tree at its depth is a loop of that many turns
@@ -51,3 +55,16 @@ abbrev pub BoundsAreInvariant : Type 0
 BoundsAreInvariant =
     (ds : List Define) (fs : List FunctionAccess) (s : State) (d : placed.Directive) (a : placed.Stmts) → HasNone (heads.construct_breaches ds fs s d a) →
     ConstructBounds ds fs s d a
+
+-- a directive finds what it takes where its arguments and those of its items are as the rules of clauses say, each finds
+-- enough loops, as the rules of structure say, and none breaks a rule of counts
+abbrev pub RulesFindLoops : Type 0
+RulesFindLoops =
+    (p : PlacedPlan) (ps : List Part) (es : List ℕ) → ArgumentsFit (forget_plan p) → 0 < length ps →
+    depths (forget_plan p) (lengths_below 0 ps) ≡ Some es → HasNone (counts.plan_breaches p 0 ps) → Finds (forget_plan p) 0 ps
+
+-- numbers that a permutation may have, as the rules of clauses say, are an order
+abbrev pub PermutationsAreOrders : Type 0
+PermutationsAreOrders =
+    (ps : List ℕ) → 0 < length ps → all_different ps ≡ true →
+    ((j : ℕ) → j < length ps → (0 < get_or ps j 0) × (get_or ps j 0 ≤ length ps)) → IsOrder ps

@@ -1,6 +1,6 @@
 //! What the kinds of counts say of the trees of a construct.
 
-ghost use Rattle.nest_counts.specs.Laws.{BoundsAreInvariant, ConstructsHaveKinds, DirectivesKeepKinds, KnownCountsHold, TakenLoopsAreRectangular};
+ghost use Rattle.nest_counts.specs.Laws.{BoundsAreInvariant, ConstructsHaveKinds, DirectivesKeepKinds, KnownCountsHold, PermutationsAreOrders, RulesFindLoops, TakenLoopsAreRectangular};
 
 /// Where the count of a loop is known, every tree at its depth is a loop of that many turns.
 pub fn known_counts_hold()
@@ -28,4 +28,15 @@ pub fn constructs_have_kinds()
 /// calls may assign, nor the variable of an affected loop round it.
 pub fn bounds_are_invariant()
     ensures { BoundsAreInvariant }
+{}
+
+/// A directive finds what it takes where its arguments fit, it and its items find enough loops, and it breaks no rule of
+/// counts.
+pub fn rules_find_loops()
+    ensures { RulesFindLoops }
+{}
+
+/// As many different numbers from 1 to n as n, and n isn't 0, are an order of n loops.
+pub fn permutations_are_orders()
+    ensures { PermutationsAreOrders }
 {}
