@@ -115,7 +115,7 @@ transformed_reaches (tile ss) k ps f r =
     let g : length (kinds.tiled k ss C) ≡ length (kinds.grid_kinds C ss) + length (kinds.tile_kinds (k + 1) C ss ++ drop (length ss) C) = length-append (kinds.grid_kinds C ss) (kinds.tile_kinds (k + 1) C ss ++ drop (length ss) C) in
     let first : get_or (lengths_below k ps) 0 0 ≡ length ks - k = first_length k ps f.0 in
     one_reaches k (get_or (lengths_below k ps) 0 0 + length ss) (settled (take k (map (moved (positions_below k (tile ss))) ks) ++ kinds.tiled k ss C))
-        (length_part (tile ss) k ks (kinds.tiled k ss C) (omega arith) ∙ (let s : k + length (kinds.tiled k ss C) ≡ k + (get_or (lengths_below k ps) 0 0 + length ss) = omega arith in s))
+    (length_part (tile ss) k ks (kinds.tiled k ss C) (omega arith) ∙ (let s : k + length (kinds.tiled k ss C) ≡ k + (get_or (lengths_below k ps) 0 0 + length ss) = omega arith in s))
 transformed_reaches (interchange qs) k ps f r =
     let ks : Part = get_or ps 0 no_part in
     let C : Part = drop k (map (moved (positions_below k (interchange qs))) ks) in
@@ -126,7 +126,7 @@ transformed_reaches (interchange qs) k ps f r =
     let d : length (kinds.interchanged qs C) ≡ length (outermost (take (length qs) C) (map (λ p. kind_at C (p - 1)) qs)) + length (drop (length qs) C) = length-append (outermost (take (length qs) C) (map (λ p. kind_at C (p - 1)) qs)) (drop (length qs) C) in
     subst (λ es. Reaches k es (transformed_kinds (interchange qs) k ps)) (sym (first_taken k ps f.0))
     (one_reaches k (length ks - k) (settled (take k (map (moved (positions_below k (interchange qs))) ks) ++ kinds.interchanged qs C))
-        (length_part (interchange qs) k ks (kinds.interchanged qs C) (omega arith) ∙ (let s : k + length (kinds.interchanged qs C) ≡ k + (length ks - k) = omega arith in s)))
+    (length_part (interchange qs) k ks (kinds.interchanged qs C) (omega arith) ∙ (let s : k + length (kinds.interchanged qs C) ≡ k + (length ks - k) = omega arith in s)))
 transformed_reaches reverse_ k ps f r =
     let ks : Part = get_or ps 0 no_part in
     let C : Part = drop k (map (moved (positions_below k reverse_)) ks) in
@@ -134,7 +134,7 @@ transformed_reaches reverse_ k ps f r =
     let some : k < length ks = f.1 in
     subst (λ es. Reaches k es (transformed_kinds reverse_ k ps)) (sym (first_taken k ps f.0))
     (one_reaches k (length ks - k) (settled (take k (map (moved (positions_below k reverse_)) ks) ++ C))
-        (length_part reverse_ k ks C (omega arith) ∙ (let s : k + length C ≡ k + (length ks - k) = omega arith in s)))
+    (length_part reverse_ k ks C (omega arith) ∙ (let s : k + length C ≡ k + (length ks - k) = omega arith in s)))
 transformed_reaches (split cs) k ps f r =
     let ks : Part = get_or ps 0 no_part in
     let C : Part = drop k (map (moved (positions_below k (split cs))) ks) in
@@ -143,15 +143,16 @@ transformed_reaches (split cs) k ps f r =
     let first : get_or (lengths_below k ps) 0 0 ≡ length ks - k = first_length k ps f.0 in
     let F : CountKind → Part = λ c. settled (take k (map (moved (positions_below k (split cs))) ks) ++ (c ∷ drop 1 C)) in
     let all : Reaches k (replicate (length (split_kinds (kind_at C 0) cs)) (get_or (lengths_below k ps) 0 0)) (map F (split_kinds (kind_at C 0) cs)) =
-        replicated k (get_or (lengths_below k ps) 0 0) F (split_kinds (kind_at C 0) cs)
-            (λ c. length_part (split cs) k ks (c ∷ drop 1 C) (omega arith) ∙ (let s : k + suc (length (drop 1 C)) ≡ k + get_or (lengths_below k ps) 0 0 = omega arith in s)) in
+    replicated k (get_or (lengths_below k ps) 0 0) F (split_kinds (kind_at C 0) cs)
+    (λ c. length_part (split cs) k ks (c ∷ drop 1 C) (omega arith) ∙ (let s : k + suc (length (drop 1 C)) ≡ k + get_or (lengths_below k ps) 0 0 = omega arith in s)) in
     subst (λ n. Reaches k (replicate n (get_or (lengths_below k ps) 0 0)) (part_kinds (split cs) k ks)) (length_split_kinds (kind_at C 0) cs)
     (subst (Reaches k (replicate (length (split_kinds (kind_at C 0) cs)) (get_or (lengths_below k ps) 0 0))) (sym (map_twice (λ below. settled (take k (map (moved (positions_below k (split cs))) ks) ++ below)) (λ c. c ∷ drop 1 C) (split_kinds (kind_at C 0) cs))) all)
 transformed_reaches (fuse None) k ps f r = subst (λ i. Reaches i (1 ∷ []) (kinds.fused ps ∷ [])) (sym f) (one_reaches 0 1 (kinds.fused ps) (omega arith))
 transformed_reaches (fuse (Some w)) k ps f r =
-    subst (λ i. Reaches i (take (w.0 - 1) (lengths_below i ps) ++ 1 ∷ drop (w.0 - 1 + w.1) (lengths_below i ps)) (kinds.fused_parts (Some w) ps)) (sym f)
-    ( (λ i. take_lengths 0 (w.0 - 1) ps i ++ 1 ∷ drop_lengths 0 (w.0 - 1 + w.1) ps i) ∙ sym (append_lengths 0 (take (w.0 - 1) ps) (kinds.fused (take w.1 (drop (w.0 - 1) ps)) ∷ drop (w.0 - 1 + w.1) ps))
-    , all_zero (kinds.fused_parts (Some w) ps) )
+    subst (λ i. Reaches i (take (w.0 - 1) (lengths_below i ps) ++ 1 ∷ drop (w.0 - 1 + w.1) (lengths_below i ps)) (kinds.fused_parts (Some w) ps)) (sym f) (
+      (λ i. take_lengths 0 (w.0 - 1) ps i ++ 1 ∷ drop_lengths 0 (w.0 - 1 + w.1) ps i) ∙ sym (append_lengths 0 (take (w.0 - 1) ps) (kinds.fused (take w.1 (drop (w.0 - 1) ps)) ∷ drop (w.0 - 1 + w.1) ps)),
+      all_zero (kinds.fused_parts (Some w) ps),
+    )
 transformed_reaches unroll_full k ps f r =
     let ks : Part = get_or ps 0 no_part in
     let some : k < length ks = f.1 in
@@ -181,10 +182,21 @@ part_found zero k g G (p ∷ ps) ds r e =
 part_found (suc i) k g G (p ∷ ps) ds r e =
     let q = some_then (part_depths i g (lengths_below k ps)) (λ bs. Some ((length p - k) ∷ bs)) ds e in
     let is : (length p - k) ∷ q.0 ≡ ds = let f : Some ((length p - k) ∷ q.0) ≡ Some ds = q.1.1 in cc in
-    let w = part_found i k g G ps q.0 r.1 q.1.0 in
-    (let l : i < length ps = w.0 in omega arith, (w.1.0, (w.1.1.0, (w.1.1.1.0, (λ h.
-        let rest : Reaches k q.0 (kinds.at_part i G ps) = w.1.1.1.1 h in
-        (sym is ∙ ap (λ bs. (length p - k) ∷ bs) rest.0, (r.0, rest.1)))))))
+    let w = part_found i k g G ps q.0 r.1 q.1.0 in (
+      let l : i < length ps = w.0 in omega arith,
+      (
+        w.1.0,
+        (
+          w.1.1.0,
+          (
+            w.1.1.1.0,
+            (λ h.
+                let rest : Reaches k q.0 (kinds.at_part i G ps) = w.1.1.1.1 h in
+                (sym is ∙ ap (λ bs. (length p - k) ∷ bs) rest.0, (r.0, rest.1))),
+          ),
+        ),
+      ),
+    )
 
 length_left : (k : ℕ) (X : Part) → k ≤ length X → length (settled (take k X)) ≡ k
 length_left k X l = length_kinds (moved (position_up_to (length (take k X)))) (take k X) ∙ taken k X l
@@ -336,7 +348,7 @@ mutual
       let t = some_then (position_depths c p (depths (forget_plan d)) ds) (applied_depths c (forget_items w)) es e in
       let q = position_found c p k (depths (forget_plan d)) (plan_kinds (forget_plan d)) ps t.0 r.1 (subst (λ z. position_depths c p (depths (forget_plan d)) z ≡ Some t.0) r.0 t.1.0) in
       let inner = plan_found d m (X ∷ []) q.1.1.0 fit.1 (omega arith) (items_may d m fit.0) (q.1.0, tt) q.1.1.1.0
-          (of_first d m (part_of_position c p ps) X fit.0 (first_of_position c p ps) none.0) in
+      (of_first d m (part_of_position c p ps) X fit.0 (first_of_position c p ps) none.0) in
       let rest = items_found c w k (kinds.on_position c p k (plan_kinds (forget_plan d)) ps) t.0 es fit.2 (q.1.1.1.1 inner.1) t.1.1 none.1 in
       ((q.0, inner.0, rest.0), rest.1)
 

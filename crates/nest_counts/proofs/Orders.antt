@@ -67,6 +67,7 @@ permutations_are_orders ps some different within = record { some = some; within 
         let w = within (place_of q ps) a.0 in
         let is : get_or ps (place_of q ps) 0 ≡ q = a.1 in
         (let l : 0 < get_or ps (place_of q ps) 0 = w.0 in omega arith, let l : get_or ps (place_of q ps) 0 ≤ length ps = w.1 in omega arith)
+
     each : (p : ℕ) → 0 < p → p ≤ length ps → is_in p ps ≡ true
     each p low high = by (is_in p ps) refl
       where
@@ -76,6 +77,7 @@ permutations_are_orders ps some different within = record { some = some; within 
             zero_out : (b : Bool) → is_in 0 ps ≡ b → b ≡ false
             zero_out true e = absurd (let w = bounds 0 e in let l : 0 < 0 = w.0 in omega arith)
             zero_out false e = refl
+
         by : (b : Bool) → is_in p ps ≡ b → b ≡ true
         by true e = refl
         by false e =
