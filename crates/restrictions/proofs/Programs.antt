@@ -45,8 +45,6 @@ frame_after v (top ∷ tops) = frame_after (visible_with v top) tops ∙ same_fr
 pub no_local : (v : Visible) (tops : bare.Program) → v ≡ visible_after nothing_visible tops → v.state.frame ≡ []
 no_local v tops is = ap (λ w. w.state.frame) is ∙ frame_after nothing_visible tops
 
-pub ruleset outside = (no_local)
-
 -- after one item more
 after_last : (v : Visible) (tops : bare.Program) (top : bare.Top) → visible_after v (tops ++ top ∷ []) ≡ visible_with (visible_after v tops) top
 after_last v [] top = refl
@@ -73,7 +71,7 @@ module _ (ds : List Define) (fs gs : List FunctionAccess) (alike : Alike fs gs) 
   same_top (p.main a span) = same_stmts ds fs gs alike s 0 a
   same_top (p.define x minus k t span) = refl
   same_top (p.extern_ port span) = refl
-  same_top (p.global t x at dims e span) = refl
+  same_top (p.global t x at dims e) = refl
 
 pub same_tops : (ds : List Define) (fs gs : List FunctionAccess) → Alike fs gs → (s : State) (tops : p.Program) → breaches_from ds fs s tops ≡ breaches_from ds gs s tops
 same_tops ds fs gs alike s [] = refl

@@ -35,7 +35,6 @@ fn scope_after<'p>(alloc: Global, items: &'p [Item]) -> Result<Scope<'p>, AllocE
 
 /// The least breach of the constructs in an item that stands after these others, where so much is known of functions.
 /// The item has a scope of its own, since one that lasted would hold on to what is known of functions.
-#[tactic(auto, using(crate::proofs::Programs::outside))]
 fn breach_after(
     alloc: Global,
     before: &[Item],
