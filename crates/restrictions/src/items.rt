@@ -66,7 +66,13 @@ pub fn item_breach<'p>(
 {
     match item {
         Item::Function { params, body, .. } => {
-            let found = function_breach(alloc, params.as_slice(), body.as_slice(), functions, scope)?;
+            let found = function_breach(
+                alloc,
+                params.as_slice(),
+                body.as_slice(),
+                functions,
+                scope,
+            )?;
             Ok(found)
         }
         Item::Main { body, .. } => {

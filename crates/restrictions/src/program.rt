@@ -73,11 +73,19 @@ fn add_function<'p>(
             body,
             ..
         } => {
-            let touched = function_access(alloc, params.as_slice(), body.as_slice(), &*functions, scope)?;
+            let touched = function_access(
+                alloc,
+                params.as_slice(),
+                body.as_slice(),
+                &*functions,
+                scope,
+            )?;
             functions.add(name, touched)?;
             Ok(())
         }
-        Item::Define { .. } | Item::Extern { .. } | Item::Global { .. } | Item::Main { .. } => Ok(()),
+        Item::Define { .. } | Item::Extern { .. } | Item::Global { .. } | Item::Main { .. } => Ok(
+            (),
+        ),
     }
 }
 
