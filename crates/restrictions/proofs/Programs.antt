@@ -1,4 +1,4 @@
--- What is visible after some items, and the breaches in the items that are left.
+-- The breaches in the items that are left.
 use Rattle.std.proofs.Common.{◌≡◌, ◌∙◌, refl, sym, ap, subst, ◌<◌, ◌≤◌, ◌+◌, ℕ, zero, suc, List, [], ◌∷◌, ◌++◌, map, length, take, drop, slice_index_or, Option, Some, None, arith}
 use Rattle.std.proofs.lemmas.List.{take_more, map-append}
 use Rattle.c_tree.specs.Bare as bare
@@ -19,49 +19,12 @@ use Rattle.canonical_nests.specs.Weight.{scope_with}
 use Rattle.canonical_nests.specs.LoopRules.BreachSets.{◌&◌, lesser, least}
 use Rattle.canonical_nests.specs.LoopRules.Programs.{top_breaches, breaches_from}
 use Rattle.canonical_nests.proofs.Order.{lesser_joins, lesser_none}
-use Rattle.loop_counts.specs.Visible.{Visible, nothing_visible}
-use Rattle.loop_weight.proofs.Items.{same_frame, top_well_formed}
+use Rattle.loop_counts.specs.Visible.{Visible}
+use Rattle.loop_weight.proofs.Items.{top_well_formed}
 use Rattle.restrictions.specs.Alike.{Alike}
-use Rattle.restrictions.specs.Walks.{visible_with, visible_after}
+use Rattle.restrictions.specs.Walks.{visible_with}
 use Rattle.restrictions.proofs.Accesses.{alike_with}
 use Rattle.restrictions.proofs.AlikeFunctions.{same_stmts}
-
--- ---- what is visible
-
-module _ (v : Visible) (xs : List Item) (i : ℕ) where
-  pub after_more : (x : Item) → i < length xs → x ≡ slice_index_or xs i x
-      → visible_after v (map bare_top (drop i xs)) ≡ visible_after (visible_with v (bare_top x)) (map bare_top (drop (i + 1) xs))
-  after_more = rest_more (λ ys. visible_after v (map bare_top ys)) xs i
-
-  pub after_end : length xs ≤ i → visible_after v (map bare_top (drop i xs)) ≡ v
-  after_end = rest_none (λ ys. visible_after v (map bare_top ys)) xs i
-
-pub ruleset scopes = (after_more, after_end, top_well_formed)
-
-frame_after : (v : Visible) (tops : bare.Program) → (visible_after v tops).state.frame ≡ v.state.frame
-frame_after v [] = refl
-frame_after v (top ∷ tops) = frame_after (visible_with v top) tops ∙ same_frame v.state top
-
-pub no_local : (v : Visible) (tops : bare.Program) → v ≡ visible_after nothing_visible tops → v.state.frame ≡ []
-no_local v tops is = ap (λ w. w.state.frame) is ∙ frame_after nothing_visible tops
-
--- after one item more
-after_last : (v : Visible) (tops : bare.Program) (top : bare.Top) → visible_after v (tops ++ top ∷ []) ≡ visible_with (visible_after v tops) top
-after_last v [] top = refl
-after_last v (t ∷ tops) top = after_last (visible_with v t) tops top
-
-pub visible_step : (v w : Visible) (xs : List Item) (i : ℕ) (x : Item) → i < length xs → x ≡ slice_index_or xs i x → w ≡ visible_with v (bare_top x)
-    → v ≡ visible_after nothing_visible (map bare_top (take i xs)) → w ≡ visible_after nothing_visible (map bare_top (take (i + 1) xs))
-visible_step v w xs i x within is next here =
-    let ys = map bare_top (take i xs) in
-    let more : map bare_top (take (i + 1) xs) ≡ ys ++ bare_top x ∷ [] =
-    ap (map bare_top) (take_more xs i x within ∙ ap (λ y. take i xs ++ y ∷ []) (sym is)) ∙ map-append bare_top (take i xs) (x ∷ []) in
-    next ∙ (ap (λ u. visible_with u (bare_top x)) here ∙ (sym (after_last nothing_visible ys (bare_top x)) ∙ ap (visible_after nothing_visible) (sym more)))
-
-pub good_before : (xs : List Item) (i : ℕ) → WellFormedTops (map bare_top xs) → WellFormedTops (map bare_top (take i xs))
-good_before xs zero good = tt
-good_before [] (suc i) good = tt
-good_before (x ∷ xs) (suc i) good = (good.0, good_before xs i good.1)
 
 -- ---- where what is known of functions is alike
 
@@ -110,4 +73,4 @@ tops_step v w fs gs xs i x found here new total within is next alike here_is new
     ∙ (lesser_joins found (least (top_breaches v.defines fs v.state (placed_top x))) (least (breaches_from ds known s left))
     ∙ (ap (lesser found) (sym (tops_more v.defines fs v.state xs i x within is)) ∙ all)))
 
-pub ruleset programs = (tops_end, top_well_formed, good_before, lesser_none)
+pub ruleset programs = (tops_end, top_well_formed, lesser_none)

@@ -25,10 +25,6 @@ abbrev pub own_breaches : List Define → List FunctionAccess → State → ℕ 
 own_breaches ds fs s zero d a = construct_breaches ds fs s d a
 own_breaches ds fs s (suc m) d a = none
 
+-- what is visible after an item
 abbrev pub visible_with : Visible → Top → Visible
 visible_with v top = record { defines = defines_with v.defines top; state = scope_with v.state top }
-
--- what is visible after items
-abbrev pub visible_after : Visible → Program → Visible
-visible_after v [] = v
-visible_after v (top ∷ tops) = visible_after (visible_with v top) tops

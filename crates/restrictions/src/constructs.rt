@@ -20,7 +20,7 @@ use std::alloc::{AllocError, Global};
 #[tactic(auto, using(crate::proofs::Tiers::tiers))]
 fn late_breach<'p>(
     alloc: Global,
-    functions: &'p Functions,
+    functions: &Functions,
     body: &'p [Stmt],
     directive: &'p Directive,
     scope: &mut Scope<'p>,
@@ -44,7 +44,7 @@ fn late_breach<'p>(
 #[tactic(auto, using(crate::proofs::Tiers::tiers))]
 fn structure_breach<'p>(
     alloc: Global,
-    functions: &'p Functions,
+    functions: &Functions,
     body: &'p [Stmt],
     directive: &'p Directive,
     scope: &mut Scope<'p>,
@@ -71,7 +71,7 @@ fn structure_breach<'p>(
 #[tactic(auto, using(crate::proofs::Tiers::tiers))]
 pub fn construct_breach<'p>(
     alloc: Global,
-    functions: &'p Functions,
+    functions: &Functions,
     body: &'p [Stmt],
     directive: &'p Directive,
     scope: &mut Scope<'p>,

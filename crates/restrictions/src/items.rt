@@ -36,7 +36,7 @@ fn function_breach<'p>(
     alloc: Global,
     params: &'p [Param],
     body: &'p [Stmt],
-    functions: &'p Functions,
+    functions: &Functions,
     scope: &mut Scope<'p>,
 ) -> Result<Option<LoopBreach>, AllocError>
     requires body { WellFormedStmts (bare_stmts body.now) }
@@ -56,7 +56,7 @@ fn function_breach<'p>(
 pub fn item_breach<'p>(
     alloc: Global,
     item: &'p Item,
-    functions: &'p Functions,
+    functions: &Functions,
     scope: &mut Scope<'p>,
 ) -> Result<Option<LoopBreach>, AllocError>
     requires well_formed { WellFormedTop (bare_top item.now) }

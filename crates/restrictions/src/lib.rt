@@ -1,7 +1,6 @@
 //! The loop rules of a whole program.
 #![tactic(auto)]
 
-pub mod access_walk;
 pub mod admit;
 pub mod constructs;
 pub mod height;

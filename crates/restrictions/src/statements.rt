@@ -41,7 +41,7 @@ fn asked_by(
 #[tactic(auto, using(crate::proofs::Walks::own))]
 fn own_breach<'p>(
     alloc: Global,
-    functions: &'p Functions,
+    functions: &Functions,
     body: &'p [Stmt],
     directive: &'p Directive,
     wanted: u64,
@@ -66,7 +66,7 @@ fn own_breach<'p>(
 fn stmt_breach<'p>(
     alloc: Global,
     stmt: &'p Stmt,
-    functions: &'p Functions,
+    functions: &Functions,
     wanted: u64,
     scope: &mut Scope<'p>,
 ) -> Result<Option<LoopBreach>, AllocError>
@@ -127,7 +127,7 @@ fn stmt_breach<'p>(
 fn loop_breach<'p>(
     alloc: Global,
     body: &'p [Stmt],
-    functions: &'p Functions,
+    functions: &Functions,
     head: &'p ForHead,
     wanted: u64,
     scope: &mut Scope<'p>,
@@ -149,7 +149,7 @@ fn loop_breach<'p>(
 fn omp_breach<'p>(
     alloc: Global,
     body: &'p [Stmt],
-    functions: &'p Functions,
+    functions: &Functions,
     directive: &'p Directive,
     wanted: u64,
     scope: &mut Scope<'p>,
@@ -173,7 +173,7 @@ fn omp_breach<'p>(
 pub fn stmts_breach<'p>(
     alloc: Global,
     stmts: &'p [Stmt],
-    functions: &'p Functions,
+    functions: &Functions,
     wanted: u64,
     scope: &mut Scope<'p>,
 ) -> Result<Option<LoopBreach>, AllocError>

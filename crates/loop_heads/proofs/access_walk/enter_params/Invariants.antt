@@ -1,7 +1,7 @@
 use Rattle.std.proofs.Common.{◌≡◌, ◌≤◌, length, map, drop}
 use Rattle.c_tree.specs.BareOf.{bare_param}
 use Rattle.c_semantics.specs.Meaning.FileVariables.{param_names}
-use Rattle.restrictions.proofs.access_walk.enter_params.Given as goal
+use Rattle.loop_heads.proofs.access_walk.enter_params.Given as goal
 
 -- The last parameters are entered.
 abbrev pub invariant-each : goal.invariant-each
