@@ -13,3 +13,4 @@ pub mod Touches
 pub mod Scopes
 pub mod AccessLists
 pub mod AccessSteps
+pub mod Parameters

@@ -1,8 +1,8 @@
 //! The file-scope variables that statements may read and may assign, by themselves and by the functions that they call.
 
-ghost use Rattle.std.specs.Prelude.{◌≡◌, ◌<◌, ◌≤◌, ◌∷◌, length, IfOk, OnOk, Some};
+ghost use Rattle.std.specs.Prelude.{◌≡◌, ◌<◌, ◌≤◌, [], ◌∷◌, length, map, IfOk, OnOk, Some};
 ghost use Rattle.std.specs.Option.{option_map};
-ghost use Rattle.c_tree.specs.BareOf.{bare_expr, bare_exprs, bare_target, bare_stmt, bare_stmts, bare_head, bare_directive, maybe_stmt};
+ghost use Rattle.c_tree.specs.BareOf.{bare_expr, bare_exprs, bare_param, bare_target, bare_stmt, bare_stmts, bare_head, bare_directive, maybe_stmt};
 ghost use Rattle.c_tree.specs.WellFormed.{WellFormedDirective, WellFormedHead, WellFormedPart, WellFormedStmt, WellFormedStmts};
 ghost use Rattle.c_semantics.specs.Loops.CanonicalForm as form;
 ghost use Rattle.c_semantics.specs.Loops.Directives as directives;
@@ -17,7 +17,7 @@ use crate::functions::{Functions, Touched};
 use crate::name_stack::NameStack;
 use c_tree::boxed::Boxed;
 use c_tree::name::Name;
-use c_tree::tree::{Directive, Expr, ForHead, SetOp, Stmt, Target};
+use c_tree::tree::{Directive, Expr, ForHead, Param, SetOp, Stmt, Target};
 use canonical_nests::directive_plan::loops_asked_by;
 use loop_counts::heads::canonical;
 use loop_counts::scope::Scope;
@@ -475,4 +475,42 @@ fn nests_access<'p>(
         nest_access(at, names, into, stmt, len, wanted)?;
     }
     Ok(())
+}
+
+/// Enters the parameters of a function, the first one latest.
+#[tactic(auto, using(crate::proofs::Parameters::names))]
+fn enter_params<'p>(names: &mut NameStack<'p>, params: &'p [Param]) -> Result<(), AllocError>
+    requires { names.old ≡ [] }
+    ensures { OnOk result (names.new ≡ files.param_names (map bare_param params.now)) }
+{
+    let mut left = params.len();
+    'each: while left > 0 {
+        left -= 1;
+        let param = &params[left];
+        names.enter(&param.name)?;
+    }
+    Ok(())
+}
+
+/// What a call of a function reads and assigns, where these functions are known and this is visible.
+pub fn function_access<'p>(
+    alloc: Global,
+    params: &'p [Param],
+    body: &'p [Stmt],
+    functions: &Functions,
+    scope: &Scope<'p>,
+) -> Result<Touched, AllocError>
+    requires { WellFormedStmts (bare_stmts body.now) }
+    ensures { IfOk result (λ touched. Gains files.no_access (files.all_accesses scope.now.defines functions.now (files.param_names (map bare_param params.now)) (bare_stmts body.now)) touched) }
+{
+    let mut names = NameStack::new(alloc);
+    enter_params(&mut names, params)?;
+    let mut touched = Touched::new(alloc);
+    let at = Known {
+        alloc,
+        functions,
+        scope,
+    };
+    stmts_access(at, &mut names, &mut touched, body)?;
+    Ok(touched)
 }

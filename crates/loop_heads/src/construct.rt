@@ -36,9 +36,9 @@ use std::alloc::{AllocError, Global};
 
 /// The construct that is looked at: its body, and what is known of functions.
 #[derive(Clone, Copy)]
-struct Within<'p> {
+struct Within<'a, 'p> {
     alloc: Global,
-    functions: &'p Functions,
+    functions: &'a Functions,
     construct: &'p [Stmt],
 }
 
@@ -102,8 +102,8 @@ fn enter<'p>(scope: &mut Scope<'p>, stmt: &'p Stmt) -> Result<(), AllocError>
 /// The breaches that look at the variable and at the bounds of a canonical head, and then the scope of its body, where
 /// the variable is a private copy.
 #[tactic(auto, using(crate::proofs::Nests::entering))]
-fn enter_canonical<'p>(
-    at: Within<'p>,
+fn enter_canonical<'a, 'p>(
+    at: Within<'a, 'p>,
     scope: &mut Scope<'p>,
     round: &mut NameStack<'p>,
     head: &'p ForHead,
@@ -130,8 +130,8 @@ fn enter_canonical<'p>(
 
 /// The same of any head.
 #[tactic(auto, using(crate::proofs::Nests::entering))]
-fn enter_head<'p>(
-    at: Within<'p>,
+fn enter_head<'a, 'p>(
+    at: Within<'a, 'p>,
     scope: &mut Scope<'p>,
     round: &mut NameStack<'p>,
     head: &'p ForHead,
@@ -153,8 +153,8 @@ fn enter_head<'p>(
 
 /// The breaches of an affected loop itself, and then the scope of its body.
 #[tactic(auto, using(crate::proofs::Nests::entering))]
-fn enter_loop<'p>(
-    at: Within<'p>,
+fn enter_loop<'a, 'p>(
+    at: Within<'a, 'p>,
     scope: &mut Scope<'p>,
     round: &mut NameStack<'p>,
     head: &'p ForHead,
@@ -174,8 +174,8 @@ fn enter_loop<'p>(
 /// The least breach of a head rule by the loops that a directive asks for, where it wants so many of a statement, one at
 /// least.
 #[cycle(stmts_breach)]
-fn stmt_breach<'p>(
-    at: Within<'p>,
+fn stmt_breach<'a, 'p>(
+    at: Within<'a, 'p>,
     scope: &mut Scope<'p>,
     round: &mut NameStack<'p>,
     stmt: &'p Stmt,
@@ -224,8 +224,8 @@ fn stmt_breach<'p>(
 /// The least breach of a head rule by a loop, and by so many loops that are wanted in its body.
 #[tactic(auto, using(crate::proofs::Nests::nests))]
 #[cycle(stmts_breach)]
-fn for_breach<'p>(
-    at: Within<'p>,
+fn for_breach<'a, 'p>(
+    at: Within<'a, 'p>,
     scope: &mut Scope<'p>,
     round: &mut NameStack<'p>,
     body: &'p [Stmt],
@@ -249,8 +249,8 @@ fn for_breach<'p>(
 
 #[tactic(auto, using(crate::proofs::Nests::walks))]
 #[cycle(stmts_breach)]
-fn stmts_breach<'p>(
-    at: Within<'p>,
+fn stmts_breach<'a, 'p>(
+    at: Within<'a, 'p>,
     scope: &mut Scope<'p>,
     round: &mut NameStack<'p>,
     stmts: &'p [Stmt],
@@ -277,7 +277,7 @@ fn stmts_breach<'p>(
 /// where these functions are known. The scope is the one where the construct stands, and is left as it was.
 pub fn construct_breach<'p>(
     alloc: Global,
-    functions: &'p Functions,
+    functions: &Functions,
     scope: &mut Scope<'p>,
     directive: &Directive,
     body: &'p [Stmt],
