@@ -1,6 +1,6 @@
 -- What functions may read and assign, where what is known of the functions that they call differs only in how often and in
 -- which order names are told.
-use Rattle.std.proofs.Common.{◌≡◌, ◌∙◌, refl, sym, ap, ℕ, zero, suc, Bool, true, false, List, [], ◌∷◌, ◌++◌, map, Option, Some, None}
+use Rattle.std.proofs.Common.{◌≡◌, ◌∙◌, refl, sym, ℕ, zero, suc, Bool, true, false, List, ◌∷◌, ◌++◌}
 use Rattle.std.specs.Prelude.{◌||◌, bytes_eq, if◌then◌else◌}
 use Rattle.c_tree.specs.Bare as bare
 use Rattle.c_tree.specs.Bare.{Name, Top}

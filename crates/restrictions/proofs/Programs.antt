@@ -1,12 +1,9 @@
 -- The breaches in the items that are left.
-use Rattle.std.proofs.Common.{◌≡◌, ◌∙◌, refl, sym, ap, subst, ◌<◌, ◌≤◌, ◌+◌, ℕ, zero, suc, List, [], ◌∷◌, ◌++◌, map, length, take, drop, slice_index_or, Option, Some, None, arith}
-use Rattle.std.proofs.lemmas.List.{take_more, map-append}
-use Rattle.c_tree.specs.Bare as bare
+use Rattle.std.proofs.Common.{◌≡◌, ◌∙◌, refl, sym, ap, ◌<◌, ◌≤◌, ◌+◌, ℕ, List, [], ◌∷◌, map, length, drop, slice_index_or, Option, None}
 use Rattle.c_tree.specs.BareOf.{bare_top}
 use Rattle.c_tree.specs.Placed as p
 use Rattle.c_tree.specs.PlacedOf.{placed_top}
 use Rattle.c_tree.specs.Forget.{forget_top, forget_param}
-use Rattle.c_tree.specs.WellFormed.{WellFormedTops}
 use Rattle.c_tree.specs.declared.tree.Item.{Item}
 use Rattle.c_tree.proofs.Forgotten.Programs.{bare_top_is}
 use Rattle.c_tree.proofs.Walks.{rest_more, rest_none}

@@ -1,7 +1,7 @@
 -- What a walk over a program comes to: at a `for` and at a directive, of which a directive round it wants m loops, and
 -- after items.
-use Rattle.std.specs.Prelude.{ℕ, zero, suc, List, [], ◌∷◌}
-use Rattle.c_tree.specs.Bare.{Top, Program}
+use Rattle.std.specs.Prelude.{ℕ, zero, suc, List}
+use Rattle.c_tree.specs.Bare.{Top}
 use Rattle.c_tree.specs.Placed.{Head, Stmts, Directive}
 use Rattle.c_tree.specs.Forget.{forget_head}
 use Rattle.c_semantics.specs.Meaning.State.{State}
