@@ -5,13 +5,13 @@ use Rattle.c_tree.specs.Bare.{Stmt, if_, if_else, while_, do_, for_, block, brea
 use Rattle.c_semantics.specs.Meaning.State.{State, nowhere}
 use Rattle.c_semantics.specs.Meaning.Expressions.{Define}
 use Rattle.c_semantics.specs.Meaning.FileVariables.{defines_with}
-use Rattle.c_semantics.specs.Loops.CanonicalForm.{Canonical, canonical}
+use Rattle.c_semantics.specs.Loops.CanonicalForm.{Canonical}
 use Rattle.c_semantics.specs.Loops.Directives.{plan_of}
 use Rattle.c_semantics.specs.Loops.Transformations.{reverse_, Plan, plan, Applied, none_applied, applied_at}
 use Rattle.c_semantics.specs.Structure.Skeleton.{scope_after}
 use Rattle.c_scopes.specs.Types.{with_params}
 use Rattle.c_scopes.specs.Laws.{scope_with}
-use Rattle.apply_rewrite.specs.CarriedOut.{where_typed, scope_below, in_head}
+use Rattle.apply_rewrite.specs.CarriedOut.{where_typed, loop_at, scope_below, in_head}
 
 -- no `break` in a statement would leave a loop round it (C11 6.8.6.3); loops and constructs keep theirs
 abbrev mutual
@@ -59,15 +59,15 @@ module _ (ds : List Define) where
     is_nest s (more_stmts a (more_stmts b as')) = false
 
     pub is_nest_in : State → Stmt → Bool
-    is_nest_in s (for_ h a) = may_be_reversed s (canonical ds h) a
+    is_nest_in s (for_ h a) =
+        is_some (loop_at ds s h) && (all_stay_in a && are_reversible (scope_below s (loop_at ds s h)) a)
     is_nest_in s (block a) = is_nest s a
     is_nest_in s (omp d a) = is_reversal (plan_of ds d) && is_nest s a
     is_nest_in s _ = false
 
-    -- a loop with this head and this body
-    pub may_be_reversed : State → Option Canonical → Stmts → Bool
-    may_be_reversed s o a =
-        is_some (where_typed s o) && (all_stay_in a && are_reversible (scope_below s (where_typed s o)) a)
+  -- a loop with these parts and this body
+  abbrev pub may_be_reversed : State → Option Canonical → Stmts → Bool
+  may_be_reversed s o a = is_some (where_typed s o) && (all_stay_in a && are_reversible (scope_below s (where_typed s o)) a)
 
 abbrev pub is_reversible_top : List Define → State → Top → Bool
 is_reversible_top ds s (function x ps a) = are_reversible ds (with_params ps s) a
