@@ -1,0 +1,2 @@
+pub mod OwnBounds
+pub mod Laws
