@@ -21,7 +21,7 @@ use Rattle.canonical_nests.specs.LoopRules.Accesses.{PlacedName, reads, reads_ea
 use Rattle.canonical_nests.specs.LoopRules.Heads.{lower_bound, upper_bound, bound_reads, is_changed, Changes, read_breaches, loop_breaches}
 use Rattle.canonical_nests.specs.declared.rules.LoopRule.TheVariants.{L6, L8}
 use Rattle.loop_normal.proofs.FreshFrames.{differ_sym}
-use Rattle.carried_names.specs.OwnBounds.{ApartIfDeclared, BoundsApart}
+use Rattle.carried_names.specs.BoundsApart.{ApartIfDeclared, BoundsApart}
 
 -- ---- names that are apart from one
 

@@ -35,7 +35,7 @@ use Rattle.loop_normal.specs.DrawnNames.{FreshNames, AreDigits}
 use Rattle.apply_rewrite.specs.SourceNames.{beside_program}
 use Rattle.apply_rewrite.specs.CarriedOut.{carried_all, carried_items}
 use Rattle.apply_rewrite.specs.Reversible.{are_reversible, are_reversible_items}
-use Rattle.carried_names.specs.OwnBounds.{ItemsHaveOwnBounds}
+use Rattle.carried_names.specs.BoundsApart.{ItemsHaveBoundsApart}
 use Rattle.carried_names.specs.Laws.{CarriedOutBreaksNone}
 use Rattle.carried_names.proofs.Fresh.{Source, Reached, reached_start}
 use Rattle.carried_names.proofs.Scopes.{Clean, clean_inner, alike_self, fresh_apart}
@@ -92,7 +92,7 @@ module _ (start : FreshNames) (digits : AreDigits start.digits) where
   abbrev known : Scope → List Name → ℕ → Known
   known s ns n = record { scope = s; names = ns; elements = n }
 
-  items_kept : (p : Program) (ds : List values.Define) (u : State) → are_reversible_items ds u p ≡ true → WellFormedTops p → ItemsHaveOwnBounds ds p → ItemsDeclare (Source start) p → (f : FreshNames) → Reached start f →
+  items_kept : (p : Program) (ds : List values.Define) (u : State) → are_reversible_items ds u p ≡ true → WellFormedTops p → ItemsHaveBoundsApart ds p → ItemsDeclare (Source start) p → (f : FreshNames) → Reached start f →
       (s : Scope) (ns ms : List Name) (n : ℕ) → Clean start s → Within start ns ms → SeenAmong start u ns → HasNone (breaches_from (known s ns n) (unplaced p)) → HasNone (breaches_from (known s ms n) (unplaced (carried_items ds u p f).tree))
   items_kept [] ds u r w o d f q s ns ms n c k seen h = tt
   items_kept (define x minus v t ∷ is) ds u r w o d f q s ns ms n c k seen h =

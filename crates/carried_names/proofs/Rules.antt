@@ -28,8 +28,8 @@ use Rattle.canonical_nests.specs.LoopRules.Programs.{clause_breaches, stmt_breac
 use Rattle.apply_rewrite.specs.CarriedOut as c
 use Rattle.apply_rewrite.specs.CarriedOut.{loop_at, in_head}
 use Rattle.apply_rewrite.specs.Reversible.{all_stay_in, is_reversal, is_reversible, are_reversible, is_nest, is_nest_in, are_reversible_items, is_reversible_program}
-use Rattle.carried_names.specs.OwnBounds.{HasOwnBounds, HaveOwnBounds, LeadsToOwnBounds, IsWithOwnBounds, ItemsHaveOwnBounds}
-use Rattle.carried_names.specs.Laws.{AdmittedHaveOwnBounds, AdmittedCarriedOutBreaksNone}
+use Rattle.carried_names.specs.BoundsApart.{HasBoundsApart, HaveBoundsApart, LeadsToBoundsApart, IsWithBoundsApart, ItemsHaveBoundsApart}
+use Rattle.carried_names.specs.Laws.{AdmittedHaveBoundsApart, AdmittedCarriedOutBreaksNone}
 use Rattle.carried_names.proofs.ReversalNeed.{asks_one}
 use Rattle.carried_names.proofs.BoundReads.{bounds_free}
 use Rattle.carried_names.proofs.Walk.{left_true, right_true}
@@ -67,7 +67,7 @@ first_none xs ys h = by (has_some xs) refl h
 
 module _ (ds : List Define) (fs : List FunctionAccess) where
   mutual
-    own_stmt : (u s : State) (a : Stmt) → is_reversible ds u (forget_stmt a) ≡ true → HasNone (stmt_breaches ds fs s 0 a) → HasOwnBounds ds (forget_stmt a)
+    own_stmt : (u s : State) (a : Stmt) → is_reversible ds u (forget_stmt a) ≡ true → HasNone (stmt_breaches ds fs s 0 a) → HasBoundsApart ds (forget_stmt a)
     own_stmt u s (decl t x at e p) r h = tt
     own_stmt u s (set t o e p) r h = tt
     own_stmt u s (step t up p) r h = tt
@@ -92,17 +92,17 @@ module _ (ds : List Define) (fs : List FunctionAccess) where
         own_nest k u s s [] a (right_true (is_reversal (plan_of ds (forget_directive d))) _ r)
         (subst (λ m. HasNone (heads.stmts_breaches ds fs k s [] m a)) one tier3.0) (subst (λ m. HasNone (stmts_breaches ds fs s m a)) one h.1)
 
-    own_stmts : (u s : State) (a : Stmts) → are_reversible ds u (forget_stmts a) ≡ true → HasNone (stmts_breaches ds fs s 0 a) → HaveOwnBounds ds (forget_stmts a)
+    own_stmts : (u s : State) (a : Stmts) → are_reversible ds u (forget_stmts a) ≡ true → HasNone (stmts_breaches ds fs s 0 a) → HaveBoundsApart ds (forget_stmts a)
     own_stmts u s no_stmts r h = tt
     own_stmts u s (more_stmts a as') r h =
         (own_stmt u s a (left_true _ _ r) h.0, own_stmts (scope_after (forget_stmt a) u) (scope_after (forget_stmt a) s) as' (right_true (is_reversible ds u (forget_stmt a)) _ r) h.1)
 
-    own_nest : (k : Changes) (u s v : State) (round : List Name) (a : Stmts) → is_nest ds u (forget_stmts a) ≡ true → HasNone (heads.stmts_breaches ds fs k s round 1 a) → HasNone (stmts_breaches ds fs v 1 a) → LeadsToOwnBounds ds (forget_stmts a)
+    own_nest : (k : Changes) (u s v : State) (round : List Name) (a : Stmts) → is_nest ds u (forget_stmts a) ≡ true → HasNone (heads.stmts_breaches ds fs k s round 1 a) → HasNone (stmts_breaches ds fs v 1 a) → LeadsToBoundsApart ds (forget_stmts a)
     own_nest k u s v round no_stmts r h g = tt
     own_nest k u s v round (more_stmts a no_stmts) r h g = own_nest_in k u s v round a r h.0 g.0
     own_nest k u s v round (more_stmts a (more_stmts b as')) r h g = tt
 
-    own_nest_in : (k : Changes) (u s v : State) (round : List Name) (a : Stmt) → is_nest_in ds u (forget_stmt a) ≡ true → HasNone (heads.stmt_breaches ds fs k s round 1 a) → HasNone (stmt_breaches ds fs v 1 a) → IsWithOwnBounds ds (forget_stmt a)
+    own_nest_in : (k : Changes) (u s v : State) (round : List Name) (a : Stmt) → is_nest_in ds u (forget_stmt a) ≡ true → HasNone (heads.stmt_breaches ds fs k s round 1 a) → HasNone (stmt_breaches ds fs v 1 a) → IsWithBoundsApart ds (forget_stmt a)
     own_nest_in k u s v round (for_ (head i i_at e e_at next next_at) a p) r h g =
         let o = forget_head (head i i_at e e_at next next_at) in
         let rest = right_true (is_some (loop_at ds u o)) _ r in (
@@ -118,7 +118,7 @@ module _ (ds : List Define) (fs : List FunctionAccess) where
 
 -- ---- items
 
-own_items : (ds : List Define) (fs : List FunctionAccess) (u s : State) (p : Program) → are_reversible_items ds u (forget_program p) ≡ true → HasNone (breaches_from ds fs s p) → ItemsHaveOwnBounds ds (forget_program p)
+own_items : (ds : List Define) (fs : List FunctionAccess) (u s : State) (p : Program) → are_reversible_items ds u (forget_program p) ≡ true → HasNone (breaches_from ds fs s p) → ItemsHaveBoundsApart ds (forget_program p)
 own_items ds fs u s [] r h = tt
 own_items ds fs u s (define x minus v t at ∷ is) r h = (tt, own_items (defines_with ds (forget_top (define x minus v t at))) fs u s is r h.1)
 own_items ds fs u s (extern_ port at ∷ is) r h = (tt, own_items ds fs u s is r h.1)
@@ -131,13 +131,13 @@ own_items ds fs u s (function x at ps a span ∷ is) r h = (
 own_items ds fs u s (main a span ∷ is) r h =
     (own_stmts ds fs u s a (left_true _ _ r) h.0, own_items ds (accesses_with ds fs (forget_top (main a span))) u s is (right_true (are_reversible ds u (forget_stmts a)) _ r) h.1)
 
-pub own_bounds : AdmittedHaveOwnBounds
-own_bounds p h r = own_items [] [] nowhere nowhere p r h
+pub bounds_apart : AdmittedHaveBoundsApart
+bounds_apart p h r = own_items [] [] nowhere nowhere p r h
 
 pub admitted_breaks_none : AdmittedCarriedOutBreaksNone
 admitted_breaks_none program admitted r =
     let p = placed_program program in
     let same = bare_program_is program in
     let rules = first_none (nest_breaches p) (or_else (height_breaches (first_directive p) p) (weight_breaches (first_directive p) p)) admitted.no_breach in
-    let own = own_bounds p rules.0 (subst (λ q. is_reversible_program q ≡ true) same r) in
-    items.breaks_none (bare_program program) admitted.checked.well_formed (breaks_none program admitted.checked) r (subst (λ q. ItemsHaveOwnBounds [] q) (sym same) own)
+    let own = bounds_apart p rules.0 (subst (λ q. is_reversible_program q ≡ true) same r) in
+    items.breaks_none (bare_program program) admitted.checked.well_formed (breaks_none program admitted.checked) r (subst (λ q. ItemsHaveBoundsApart [] q) (sym same) own)

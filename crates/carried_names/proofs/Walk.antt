@@ -25,7 +25,7 @@ use Rattle.loop_normal.specs.DrawnNames.{FreshNames, AreDigits}
 use Rattle.loop_normal.specs.Laws.{source_loop}
 use Rattle.apply_rewrite.specs.CarriedOut.{Made, made_leaf, planned, variable_type, with_type, where_typed, loop_at, scope_below, in_head, carried, carried_all, nest, nest_in}
 use Rattle.apply_rewrite.specs.Reversible.{all_stay_in, is_reversal, is_reversible, are_reversible, is_nest, is_nest_in}
-use Rattle.carried_names.specs.OwnBounds.{ApartIfDeclared, BoundsApart, HasOwnBounds, HaveOwnBounds, LeadsToOwnBounds, IsWithOwnBounds}
+use Rattle.carried_names.specs.BoundsApart.{ApartIfDeclared, BoundsApart, HasBoundsApart, HaveBoundsApart, LeadsToBoundsApart, IsWithBoundsApart}
 use Rattle.carried_names.proofs.Fresh.{Source, Reached}
 use Rattle.carried_names.proofs.Declares.{Declares, DeclareAll, DeclaresIf}
 use Rattle.carried_names.proofs.Scopes.{Under, Clean, Alike, Scalar, alike_self, alike_inner, alike_declared, taken_alike, inner_under, clean_inner, clean_source}
@@ -163,7 +163,7 @@ module _ (start : FreshNames) (digits : AreDigits start.digits) (inside : Bool) 
     -- ---- statements
 
     mutual
-      stmt_kept : (u : State) (a : Stmt) → is_reversible ds u a ≡ true → WellFormedStmt a → HasOwnBounds ds a → Declares (Source start) a → (f : FreshNames) → Reached start f → (il : Bool) (s t : Scope) → Alike start s t →
+      stmt_kept : (u : State) (a : Stmt) → is_reversible ds u a ≡ true → WellFormedStmt a → HasBoundsApart ds a → Declares (Source start) a → (f : FreshNames) → Reached start f → (il : Bool) (s t : Scope) → Alike start s t →
           HasNone (stmt_breaches inside il s (unplaced_stmt a)) → StmtKept il s t a (carried ds u a f)
       stmt_kept u (decl T x e) r w o d f q il s t k h = record { kept = decl_kept il s t k T x e d h; reached = q }
       stmt_kept u (set a op e) r w o d f q il s t k h =
@@ -209,7 +209,7 @@ module _ (start : FreshNames) (digits : AreDigits start.digits) (inside : Bool) 
           let c = call_kept start s t k.under k.clean inside x (length (expr_list (unplaced_exprs es))) h.0 in
           record { kept = record { none = (c.0, exprs_kept start s t k.under k.clean es h.1); depth = c.1; after = k }; reached = q }
 
-      pub stmts_kept : (u : State) (a : Stmts) → are_reversible ds u a ≡ true → WellFormedStmts a → HaveOwnBounds ds a → DeclareAll (Source start) a → (f : FreshNames) → Reached start f → (il : Bool) (s t : Scope) → Alike start s t →
+      pub stmts_kept : (u : State) (a : Stmts) → are_reversible ds u a ≡ true → WellFormedStmts a → HaveBoundsApart ds a → DeclareAll (Source start) a → (f : FreshNames) → Reached start f → (il : Bool) (s t : Scope) → Alike start s t →
           HasNone (stmts_breaches inside il s (unplaced_stmts a)) → StmtsKept il s t a (carried_all ds u a f)
       stmts_kept u no_stmts r w o d f q il s t k h = record { fine = record { none = tt; depth = refl }; reached = q }
       stmts_kept u (more_stmts a as') r w o d f q il s t k h =
@@ -218,14 +218,14 @@ module _ (start : FreshNames) (digits : AreDigits start.digits) (inside : Bool) 
           let c = stmts_kept (scope_after a u) as' (right_true (is_reversible ds u a) _ r) w.1 o.1 d.1 m.left b.reached il (after_stmt s (unplaced_stmt a)) (after_stmt t (unplaced_stmt m.tree)) b.kept.after h.1 in
           record { fine = record { none = (b.kept.none, c.fine.none); depth = λ j. max (b.kept.depth j) (c.fine.depth j) }; reached = c.reached }
 
-      nest_kept : (u : State) (a : Stmts) → is_nest ds u a ≡ true → WellFormedStmts a → LeadsToOwnBounds ds a → DeclareAll (Source start) a → (f : FreshNames) → Reached start f → (il : Bool) (s t : Scope) → Under start s t → Clean start s →
+      nest_kept : (u : State) (a : Stmts) → is_nest ds u a ≡ true → WellFormedStmts a → LeadsToBoundsApart ds a → DeclareAll (Source start) a → (f : FreshNames) → Reached start f → (il : Bool) (s t : Scope) → Under start s t → Clean start s →
           HasNone (stmts_breaches inside il s (unplaced_stmts a)) → MadeFine start digits inside t (deepest_calls s (unplaced_stmts a)) (nest ds u a f)
       nest_kept u no_stmts r w o d f q il s t k c h = absurd (both_ways false refl r)
       nest_kept u (more_stmts a no_stmts) r w o d f q il s t k c h =
           subst (λ n. MadeFine start digits inside t n (nest_in ds u a f)) (sym (max_right (deepest_call s (unplaced_stmt a)))) (nest_in_kept u a r w.0 o d.0 f q il s t k c h.0)
       nest_kept u (more_stmts a (more_stmts b as')) r w o d f q il s t k c h = absurd (both_ways false refl r)
 
-      nest_in_kept : (u : State) (a : Stmt) → is_nest_in ds u a ≡ true → WellFormedStmt a → IsWithOwnBounds ds a → Declares (Source start) a → (f : FreshNames) → Reached start f → (il : Bool) (s t : Scope) → Under start s t → Clean start s →
+      nest_in_kept : (u : State) (a : Stmt) → is_nest_in ds u a ≡ true → WellFormedStmt a → IsWithBoundsApart ds a → Declares (Source start) a → (f : FreshNames) → Reached start f → (il : Bool) (s t : Scope) → Under start s t → Clean start s →
           HasNone (stmt_breaches inside il s (unplaced_stmt a)) → MadeFine start digits inside t (deepest_call s (unplaced_stmt a)) (nest_in ds u a f)
       nest_in_kept u (for_ (head i e next) a) r w o d f q il s t k c h =
           let below = scope_below u (loop_at ds u (head i e next)) in

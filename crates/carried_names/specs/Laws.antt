@@ -12,17 +12,17 @@ use Rattle.canonical_nests.specs.LoopRules.BreachSets.{HasNone}
 use Rattle.canonical_nests.specs.LoopRules.Programs.{nest_breaches}
 use Rattle.apply_rewrite.specs.CarriedOut.{carried_out}
 use Rattle.apply_rewrite.specs.Reversible.{is_reversible_program}
-use Rattle.carried_names.specs.OwnBounds.{LoopsHaveOwnBounds}
+use Rattle.carried_names.specs.BoundsApart.{LoopsHaveBoundsApart}
 
 -- it breaks none of the rules N1 to N12 where the source breaks none
 abbrev pub CarriedOutBreaksNone : Type 0
 CarriedOutBreaksNone =
-    (p : bare.Program) → WellFormed p → BreaksNone p → is_reversible_program p ≡ true → LoopsHaveOwnBounds p → BreaksNone (carried_out p)
+    (p : bare.Program) → WellFormed p → BreaksNone p → is_reversible_program p ≡ true → LoopsHaveBoundsApart p → BreaksNone (carried_out p)
 
 -- the loop rules ask for such bounds
-abbrev pub AdmittedHaveOwnBounds : Type 0
-AdmittedHaveOwnBounds =
-    (p : placed.Program) → HasNone (nest_breaches p) → is_reversible_program (forget_program p) ≡ true → LoopsHaveOwnBounds (forget_program p)
+abbrev pub AdmittedHaveBoundsApart : Type 0
+AdmittedHaveBoundsApart =
+    (p : placed.Program) → HasNone (nest_breaches p) → is_reversible_program (forget_program p) ≡ true → LoopsHaveBoundsApart (forget_program p)
 
 -- so of an admitted program no more is asked
 abbrev pub AdmittedCarriedOutBreaksNone : Type 0

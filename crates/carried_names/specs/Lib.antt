@@ -1,2 +1,2 @@
-pub mod OwnBounds
+pub mod BoundsApart
 pub mod Laws
