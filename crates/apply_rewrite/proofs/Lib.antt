@@ -1,3 +1,6 @@
+pub mod PlanWalks
+pub mod Scopes
+pub mod Reversals
 pub mod Breaks
 pub mod Stacks
 pub mod Congruent

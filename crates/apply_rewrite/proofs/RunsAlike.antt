@@ -5,6 +5,7 @@ use Rattle.c_tree.specs.BareOf.{bare_program}
 use Rattle.c_tree.specs.Checked.{IsChecked}
 use Rattle.c_tree.specs.WellFormed.{WellFormed}
 use Rattle.c_tree.specs.declared.tree.Program as tree
+use Rattle.c_semantics.specs.Meaning.State.{nowhere}
 use Rattle.c_semantics.specs.Meaning.Programs.{outcome, turns_of}
 use Rattle.loop_normal.specs.DrawnNames.{AreDigits}
 use Rattle.apply_rewrite.specs.SourceNames.{beside_program}
@@ -21,12 +22,12 @@ use Rattle.apply_rewrite.proofs.SourceNames.{source_spent}
 pub runs_alike : CarriedOutRunsAlike
 runs_alike = λ p well h.
     let d : AreDigits (beside_program p).digits = (omega arith, tt) in
-    let g = good_items p [] h well.0 (beside_program p) d (source_spent p d) in
+    let g = good_items p [] nowhere h well.0 (beside_program p) d (source_spent p d) in
     (g.related, g.plain, λ n input. outcomes_agree n p (carried_out p) input g.related)
 
 -- what stands for a program: it does the same, and has no directive
 pub record Stands (p q : Program) : Type 0 where
-  pub rewritten : ProgramRewritten [] p q
+  pub rewritten : ProgramRewritten [] nowhere p q
   pub plain : HoldsNoDirective q
   pub outcome : (n : ℕ) (input : List ℤ) → outcome n q input ≡ outcome n p input
   pub turns : (n : ℕ) (input : List ℤ) → turns_of n q input ≡ turns_of n p input

@@ -1,8 +1,10 @@
 pub mod NoBreaks
 pub mod NoDirectives
 pub mod SourceNames
+pub mod ScopeOf
+pub mod CarriedOut
+pub mod AllReverse
+pub mod Reversible
 pub mod ReverseStacks
 pub mod Rewritten
-pub mod CarriedOut
-pub mod Reversible
 pub mod Laws

@@ -5,6 +5,8 @@ mod carrying;
 mod defines;
 mod heads;
 pub mod laws;
+mod plans;
 pub mod reversible;
 pub mod rewrite;
+mod scope;
 mod source_names;
