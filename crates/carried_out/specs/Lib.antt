@@ -1,0 +1,4 @@
+pub mod SourceNames
+pub mod CarriedOut
+pub mod AllReverse
+pub mod Reversible
