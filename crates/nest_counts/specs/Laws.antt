@@ -1,0 +1,70 @@
+-- What the kinds of counts of a part say of the trees that have them.
+use Rattle.std.specs.Prelude.{ℕ, ◌≡◌, ◌+◌, ◌<◌, ◌≤◌, List, length, Ok, Some, true, false, get_or}
+use Rattle.c_tree.specs.Bare.{Directive, Stmts}
+use Rattle.c_tree.specs.Placed as placed
+use Rattle.c_semantics.specs.Meaning.State.{State}
+use Rattle.c_semantics.specs.Meaning.Expressions.{Define}
+use Rattle.c_semantics.specs.Meaning.FileVariables.{FunctionAccess}
+use Rattle.c_semantics.specs.Loops.Directives.{plan_of}
+use Rattle.c_semantics.specs.Loops.Need.{depths, loops_asked}
+use Rattle.c_semantics.specs.Loops.Forest.{forest}
+use Rattle.c_semantics.specs.Loops.IterationTrees.{Tree, widths, pick, build}
+use Rattle.c_semantics.specs.Loops.Transformations.{Plan, apply_plan}
+use Rattle.canonical_nests.specs.declared.nest.CountKind.TheVariants.{Known}
+use Rattle.canonical_nests.specs.Kinds.{Part, kind_at, plan_kinds}
+use Rattle.canonical_nests.specs.LoopRules.Counts.{depend_on_another}
+use Rattle.nest_counts.specs.HasKinds.{HasKinds, IsLoop, turns, EachBelow}
+use Rattle.canonical_nests.specs.Shapes.{body_kinds}
+use Rattle.canonical_nests.specs.LoopRules.BreachSets.{HasNone}
+use Rattle.canonical_nests.specs.LoopRules.PlacedPlans.{PlacedPlan, forget_plan}
+use Rattle.canonical_nests.specs.LoopRules.Clauses.{all_different}
+use Rattle.canonical_nests.specs.LoopRules.Counts as counts
+use Rattle.canonical_nests.specs.LoopRules.Heads as heads
+use Rattle.nest_counts.specs.Plans.{IsOrder, Finds, PartsHave, Beside}
+use Rattle.nest_counts.specs.Statements.{ConstructFinds}
+use Rattle.nest_counts.specs.Found.{ArgumentsFit, lengths_below}
+use Rattle.nest_counts.specs.Bounds.{ConstructBounds}
+
+-- where the count of a loop is known, every tree at its depth is a loop of that many turns
+abbrev pub KnownCountsHold : Type 0
+KnownCountsHold =
+    (ks : Part) (t : Tree) → HasKinds ks t → (n v : ℕ) → n < length ks → kind_at ks n ≡ Known v →
+    EachBelow (λ u. IsLoop u × turns u ≡ v) n t
+
+-- n loops below k others, none of which depends on another of them, are a nest that is as wide everywhere
+abbrev pub TakenLoopsAreRectangular : Type 0
+TakenLoopsAreRectangular =
+    (ks : Part) (t : Tree) → HasKinds ks t → (k n : ℕ) → k + n ≤ length ks → depend_on_another k n ks ≡ false →
+    EachBelow (λ u. u ≡ build (widths n u) (pick u)) k t
+
+-- where a directive and its items find what they take, the parts that they give have the kinds that they give
+abbrev pub DirectivesKeepKinds : Type 0
+DirectivesKeepKinds =
+    (p : Plan) (k : ℕ) (ps : List Part) (f : Tree → List Tree) (t : Tree) → PartsHave ps k f t → Finds p k ps →
+    PartsHave (plan_kinds p k ps) k (λ u. apply_plan p (f u)) t
+
+-- where the directives of a construct find what they take, and its loops are typed in the scope as in the state of the
+-- entry, the parts that it runs have the kinds that the rules of counts see
+abbrev pub ConstructsHaveKinds : Type 0
+ConstructsHaveKinds =
+    (ds : List Define) (scope s : State) (d : Directive) (a : Stmts) (ts : List Tree) → ConstructFinds ds s scope d a → forest ds s d a ≡ Ok ts →
+    Beside HasKinds (plan_kinds (plan_of ds d) 0 (body_kinds ds scope (loops_asked (plan_of ds d) 0) d a)) ts
+
+-- in a construct that breaks no rule of heads no bound reads what may change
+abbrev pub BoundsAreInvariant : Type 0
+BoundsAreInvariant =
+    (ds : List Define) (fs : List FunctionAccess) (s : State) (d : placed.Directive) (a : placed.Stmts) → HasNone (heads.construct_breaches ds fs s d a) →
+    ConstructBounds ds fs s d a
+
+-- a directive finds what it takes where its arguments and those of its items are as the rules of clauses say, each finds
+-- enough loops, as the rules of structure say, and none breaks a rule of counts
+abbrev pub RulesFindLoops : Type 0
+RulesFindLoops =
+    (p : PlacedPlan) (ps : List Part) (es : List ℕ) → ArgumentsFit (forget_plan p) → 0 < length ps →
+    depths (forget_plan p) (lengths_below 0 ps) ≡ Some es → HasNone (counts.plan_breaches p 0 ps) → Finds (forget_plan p) 0 ps
+
+-- numbers that a permutation may have, as the rules of clauses say, are an order
+abbrev pub PermutationsAreOrders : Type 0
+PermutationsAreOrders =
+    (ps : List ℕ) → 0 < length ps → all_different ps ≡ true →
+    ((j : ℕ) → j < length ps → (0 < get_or ps j 0) × (get_or ps j 0 ≤ length ps)) → IsOrder ps

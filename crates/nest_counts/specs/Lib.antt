@@ -1,0 +1,6 @@
+pub mod HasKinds
+pub mod Plans
+pub mod Statements
+pub mod Bounds
+pub mod Found
+pub mod Laws

@@ -1,0 +1,42 @@
+//! What the kinds of counts say of the trees of a construct.
+
+ghost use Rattle.nest_counts.specs.Laws.{BoundsAreInvariant, ConstructsHaveKinds, DirectivesKeepKinds, KnownCountsHold, PermutationsAreOrders, RulesFindLoops, TakenLoopsAreRectangular};
+
+/// Where the count of a loop is known, every tree at its depth is a loop of that many turns.
+pub fn known_counts_hold()
+    ensures { KnownCountsHold }
+{}
+
+/// Loops one below another, none of which depends on another of them, are a nest that is as wide everywhere.
+pub fn taken_loops_are_rectangular()
+    ensures { TakenLoopsAreRectangular }
+{}
+
+/// Where a directive and its items find the loops that they take, and those of `tile` and `interchange` don't depend on one
+/// another, the parts that they give have the kinds of counts that they give.
+pub fn directives_keep_kinds()
+    ensures { DirectivesKeepKinds }
+{}
+
+/// Where the directives of a construct find the loops that they take, and its loops are typed in the scope as in the state
+/// of the entry, the parts that it runs have the kinds of counts by which the loop rules decide.
+pub fn constructs_have_kinds()
+    ensures { ConstructsHaveKinds }
+{}
+
+/// In a construct that breaks no rule of heads, no bound of an affected loop reads what the construct or a function that it
+/// calls may assign, nor the variable of an affected loop round it.
+pub fn bounds_are_invariant()
+    ensures { BoundsAreInvariant }
+{}
+
+/// A directive finds what it takes where its arguments fit, it and its items find enough loops, and it breaks no rule of
+/// counts.
+pub fn rules_find_loops()
+    ensures { RulesFindLoops }
+{}
+
+/// As many different numbers from 1 to n as n, and n isn't 0, are an order of n loops.
+pub fn permutations_are_orders()
+    ensures { PermutationsAreOrders }
+{}
