@@ -1,0 +1,98 @@
+-- A known count within outer loops: the nest stays steady and denotes the same.
+use Rattle.std.proofs.Common.{◌≡◌, refl, sym, ap, ◌∙◌, subst, ℕ, zero, suc, ◌+◌, ◌<◌, ◌^◌, List, [], ◌∷◌, ◌++◌, length, Result, Ok, Err, None, true, ℤ, arith}
+use Rattle.std.specs.Prelude.{map}
+use Rattle.std.proofs.lemmas.List.{length-map}
+use Rattle.c_tree.specs.Bare.{Name, Stmt, Stmts}
+use Rattle.c_tree.specs.declared.tree.Ty.{Ty}
+use Rattle.c_tree.specs.declared.arithmetic.Trap.{Trap}
+use Rattle.c_semantics.specs.Meaning.State.{Var, State}
+use Rattle.c_semantics.specs.Meaning.SimpleStatements.{Env}
+use Rattle.c_semantics.specs.Loops.IterationTrees.{Tree, body, do_all, loop, Trees, no_trees, more_trees, to_list, children, nth, put, put_all}
+use Rattle.c_semantics.specs.Loops.Execution.{Body}
+use Rattle.loop_normal.specs.Frames.{AgreesBut}
+use Rattle.loop_normal.specs.Gens.{GenLoop, gen_loop, Nest, Seq, Looped}
+use Rattle.loop_normal.specs.Templates.{ll}
+use Rattle.loop_normal.specs.Denotes.{Calm, Value, PartMeans, LetsApart}
+use Rattle.loop_normal.proofs.FreshFrames.{value_num}
+use Rattle.nest_normal.specs.NestTexts.{declare_in, counted_to, at_loop, zero_at}
+use Rattle.nest_normal.specs.OuterVariables.{Outer, declaration_of, declared, puts}
+use Rattle.nest_normal.specs.NestDenotes.{IsSteady, NestMeans}
+use Rattle.nest_normal.specs.KnownCounts.{Turns, AllTurns}
+use Rattle.nest_normal.proofs.KnownCount.{zero_value, counted_means, lets_kept}
+
+-- ---- values before the values of the bodies
+
+put_list : (z : ℤ) (ts : Trees) → to_list (put_all z ts) ≡ map (put z) (to_list ts)
+put_list z no_trees = refl
+put_list z (more_trees t ts) = ap (λ l. put z t ∷ l) (put_list z ts)
+
+put_children : (z : ℤ) (t : Tree) → children (put z t) ≡ map (put z) (children t)
+put_children z (body b vs) = refl
+put_children z (do_all ts) = put_list z ts
+put_children z (loop ts) = put_list z ts
+
+put_length : (z : ℤ) (t : Tree) → length (children (put z t)) ≡ length (children t)
+put_length z t = ap length (put_children z t) ∙ length-map (children t) (put z)
+
+nth_map : (z : ℤ) (i : ℕ) (ts : List Tree) → i < length ts → nth i (map (put z) ts) ≡ put z (nth i ts)
+nth_map z i [] h = absurd (omega (arith, h))
+nth_map z zero (t ∷ ts) h = refl
+nth_map z (suc i) (t ∷ ts) h = nth_map z i ts (omega (arith, h))
+
+turns_put : (d k : ℕ) (z : ℤ) (t : Tree) → Turns d k t → Turns d k (put z t)
+turns_put zero k z t h = put_length z t ∙ h
+turns_put (suc d) k z t h = λ i l.
+    let below : i < length (children t) = omega (arith, l, put_length z t) in
+    let one : put z (nth i (children t)) ≡ nth i (children (put z t)) = sym (ap (nth i) (put_children z t) ∙ nth_map z i (children t) below) in
+    subst (Turns d k) one (turns_put d k z (nth i (children t)) (h i below))
+
+turns_puts : (d k : ℕ) (zs : List ℤ) (t : Tree) → Turns d k t → Turns d k (puts zs t)
+turns_puts d k [] t h = h
+turns_puts d k (z ∷ zs) t h = turns_put d k z (puts zs t) (turns_puts d k zs t h)
+
+-- ---- declarations below the innermost loop
+
+declare_counted : (x : Stmt) (d k : ℕ) (l : GenLoop) → declare_in x (at_loop d (counted_to k None) l) ≡ at_loop d (counted_to k None) (declare_in x l)
+declare_counted x zero k (gen_loop ls c a b inner) = refl
+declare_counted x (suc d) k (gen_loop ls c a b (Nest l)) = ap (λ m. gen_loop ls c a b (Nest m)) (declare_counted x d k l)
+declare_counted x (suc d) k (gen_loop ls c a b (Seq ps)) = refl
+
+declared_counted : (os : List Outer) (d k : ℕ) (l : GenLoop) → declared os (at_loop d (counted_to k None) l) ≡ at_loop d (counted_to k None) (declared os l)
+declared_counted [] d k l = refl
+declared_counted (o ∷ os) d k l = ap (declare_in (declaration_of o)) (declared_counted os d k l) ∙ declare_counted (declaration_of o) d k (declared os l)
+
+declare_zero : (x : Stmt) (d : ℕ) (l : GenLoop) → zero_at d (declare_in x l) ≡ zero_at d l
+declare_zero x zero (gen_loop ls c a b inner) = refl
+declare_zero x (suc d) (gen_loop ls c a b (Nest l)) = declare_zero x d l
+declare_zero x (suc d) (gen_loop ls c a b (Seq ps)) = refl
+
+declared_zero : (os : List Outer) (d : ℕ) (l : GenLoop) → zero_at d (declared os l) ≡ zero_at d l
+declared_zero [] d l = refl
+declared_zero (o ∷ os) d l = declare_zero (declaration_of o) d (declared os l) ∙ declared_zero os d l
+
+module _ (n : ℕ) (env : Env) (bs : List Body) (Out : Name → Type 0) where
+  steady_counted : (d k : ℕ) (l : GenLoop) (p : List Var) → k < 2 ^ 63 → zero_at d l ≡ true → IsSteady n env bs Out l p → IsSteady n env bs Out (at_loop d (counted_to k None) l) p
+  steady_counted zero k (gen_loop ls c a b inner) p small e h =
+      let F = AgreesBut c h.0 in
+      let none : h.2 ≡ 0 = zero_value env.defines F h.0 a h.2 (λ y x o q. q) e h.4 in
+      let same : k ≡ h.2 + k = omega (arith, none) in
+      (h.0, h.1, h.2, k, h.4, subst (Value env.defines F (ll k)) same (value_num env.defines F k small), h.6)
+  steady_counted (suc d) k (gen_loop ls c a b (Nest l)) p small e h = (h.0, h.1, h.2, h.3, h.4, h.5, steady_counted d k l h.0 small e h.6)
+  steady_counted (suc d) k (gen_loop ls c a b (Seq ps)) p small e h = h
+
+  pub counted_within : Calm bs → (d k : ℕ) (own : List Name) (xs : List (Name × Ty)) (front : Stmts) (l : GenLoop) (s : State) (r : Result (List Tree) Trap) → zero_at d l ≡ true → k < 2 ^ 63 → AllTurns d k r →
+      NestMeans n env bs Out own xs front l s r → NestMeans n env bs Out own xs front (at_loop d (counted_to k None) l) s r
+  counted_within calm d k own xs front l s (Err x) e small turns h = h
+  counted_within calm d k own xs front l s (Ok []) e small turns h = h
+  counted_within calm d k own xs front l s (Ok (t ∷ u ∷ ts)) e small turns h = h
+  counted_within calm d k own xs front l s (Ok (t ∷ [])) e small turns h = (
+    h.0,
+    h.1,
+    (λ p none. steady_counted d k l (h.0 ++ p) small e (h.2 p none)),
+    λ p os zs none is given.
+        let part = h.3 p os zs none is given in
+        let zero_ = declared_zero os d l ∙ e in
+        let means = counted_means n env bs Out calm d k None (declared os l) (h.0 ++ p) (puts zs t) zero_ small (turns_puts d k zs t turns.0) part.0 in
+        let apart = subst (λ ls. LetsApart ls (h.0 ++ p)) (sym (lets_kept n env bs Out calm d k None (declared os l))) part.1 in
+        subst (λ m. PartMeans n env bs Out (Looped m) (h.0 ++ p) (puts zs t)) (sym (declared_counted os d k l)) (means, apart),
+  )

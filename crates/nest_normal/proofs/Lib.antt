@@ -1,0 +1,10 @@
+pub mod HiddenCopies
+pub mod OuterLists
+pub mod Innermost
+pub mod Outer
+pub mod RoundNests
+pub mod Nests
+pub mod KnownCount
+pub mod CountedWithin
+pub mod HiddenNames
+pub mod Shown
