@@ -1,0 +1,3 @@
+pub mod FirstUnlike
+pub mod Listed
+pub mod Visibility

@@ -1,0 +1,129 @@
+//! The affected loops of a statement, and the first of them that isn't canonical.
+
+ghost use Rattle.std.specs.Prelude.{◌≡◌, ◌<◌, ◌-◌, IfOk};
+ghost use Rattle.c_tree.specs.BareOf.{bare_head, bare_stmt, bare_stmts};
+ghost use Rattle.c_tree.specs.PlacedOf.{placed_head, placed_stmt, placed_stmts};
+ghost use Rattle.c_tree.specs.Forget.{forget_head};
+ghost use Rattle.c_tree.specs.WellFormed.{WellFormedHead, WellFormedStmt, WellFormedStmts};
+ghost use Rattle.c_semantics.specs.Loops.CanonicalForm as form;
+ghost use Rattle.canonical_nests.specs.LoopRules.Programs.{or_later};
+ghost use Rattle.loop_shapes.specs.Affected as affected;
+ghost use Rattle.loop_shapes.specs.Affected.{unless_canonical};
+
+use crate::constructs::asked_by;
+use c_tree::tree::{ForHead, Stmt};
+use loop_counts::heads::canonical;
+use loop_counts::scope::Scope;
+use std::alloc::{AllocError, Global};
+
+/// The place, where the head isn't canonical.
+#[tactic(auto, using(crate::proofs::FirstUnlike::heads))]
+fn unless_canonical(scope: &Scope, head: &ForHead, place: u64) -> Option<u64>
+    requires { WellFormedHead (bare_head head.now) }
+    ensures { result ≡ unless_canonical (form.canonical scope.now.defines (forget_head (placed_head head.now))) place }
+{
+    match canonical(scope, head) {
+        None => Some(place),
+        Some(_) => None,
+    }
+}
+
+/// The first place, if there is one, else the second.
+fn or_later(first: Option<u64>, second: Option<u64>) -> Option<u64>
+    ensures { result ≡ or_later first second }
+{
+    match first {
+        None => second,
+        Some(place) => Some(place),
+    }
+}
+
+/// The word `for` of the first affected loop that isn't canonical, in a statement of which so many loops are wanted, one
+/// at least.
+#[cycle(first_in)]
+fn first_in(
+    alloc: Global,
+    stmt: &Stmt,
+    scope: &Scope,
+    wanted: u64,
+) -> Result<Option<u64>, AllocError>
+    requires well_formed { WellFormedStmt (bare_stmt stmt.now) }
+    requires some { 0 < wanted }
+    ensures { IfOk result (λ place. place ≡ affected.first_in scope.now.defines wanted (placed_stmt stmt.now)) }
+{
+    match stmt {
+        Stmt::For { head, body, span } => {
+            let below = first_among(alloc, body.as_slice(), scope, wanted - 1)?;
+            let own = unless_canonical(scope, head, span.start);
+            Ok(or_later(own, below))
+        }
+        Stmt::Block { body, .. } => {
+            let below = first_among(alloc, body.as_slice(), scope, wanted)?;
+            Ok(below)
+        }
+        Stmt::Omp {
+            directive,
+            body,
+            ..
+        } => {
+            let asked = asked_by(alloc, scope, directive, wanted)?;
+            let below = first_among(alloc, body.as_slice(), scope, asked)?;
+            Ok(below)
+        }
+        Stmt::Decl { .. } => Ok(None),
+        Stmt::Set { .. } => Ok(None),
+        Stmt::Step { .. } => Ok(None),
+        Stmt::Print { .. } => Ok(None),
+        Stmt::Input { .. } => Ok(None),
+        Stmt::If { no: None, .. } => Ok(None),
+        Stmt::If { no: Some(_), .. } => Ok(None),
+        Stmt::While { .. } => Ok(None),
+        Stmt::Do { .. } => Ok(None),
+        Stmt::Break { .. } => Ok(None),
+        Stmt::Continue { .. } => Ok(None),
+        Stmt::Empty { .. } => Ok(None),
+        Stmt::Call { .. } => Ok(None),
+    }
+}
+
+/// The first among statements, of each of which so many loops are wanted.
+#[tactic(auto, using(crate::proofs::FirstUnlike::lists))]
+#[cycle(first_in)]
+fn first_among(
+    alloc: Global,
+    stmts: &[Stmt],
+    scope: &Scope,
+    wanted: u64,
+) -> Result<Option<u64>, AllocError>
+    requires { WellFormedStmts (bare_stmts stmts.now) }
+    ensures { IfOk result (λ place. place ≡ affected.first_among scope.now.defines wanted (placed_stmts stmts.now)) }
+{
+    if wanted == 0 {
+        return Ok(None);
+    }
+    'each: for stmt in stmts {
+        let here = first_in(alloc, stmt, scope, wanted)?;
+        if let Some(place) = here {
+            return Ok(Some(place));
+        }
+    }
+    Ok(None)
+}
+
+/// The word `for` of the first loop that isn't canonical, of those that are affected where so many loops are wanted.
+#[tactic(auto, using(crate::proofs::FirstUnlike::wanted))]
+pub fn first_unlike(
+    alloc: Global,
+    stmt: &Stmt,
+    scope: &Scope,
+    wanted: u64,
+) -> Result<Option<u64>, AllocError>
+    requires { WellFormedStmt (bare_stmt stmt.now) }
+    ensures { IfOk result (λ place. place ≡ affected.first_unlike scope.now.defines wanted (placed_stmt stmt.now)) }
+{
+    if wanted == 0 {
+        return Ok(None);
+    }
+    let place = first_in(alloc, stmt, scope, wanted)?;
+    Ok(place)
+}
