@@ -23,12 +23,12 @@ use Rattle.apply_rewrite.specs.NoDirectives.{NoDirective, NoDirectiveIf, NoDirec
 use Rattle.apply_rewrite.specs.ReverseStacks.{times_after, LeadsTo, loop_here, in_braces, in_directive, reversed_all, IsStack, all_names}
 use Rattle.apply_rewrite.specs.Rewritten.{IsSimple, Rewritten, same, in_if, in_if_else, in_while, in_do, in_for, a_stack, AllRewritten, none, more}
 use Rattle.apply_rewrite.specs.Rewritten as rewritten
-use Rattle.apply_rewrite.specs.CarriedOut.{Made, made_leaf, made_block, planned, variable_type, with_type, where_typed, loop_at, scope_below, carried, carried_all, nest, nest_in}
-use Rattle.apply_rewrite.specs.Reversible.{stays_in, all_stay_in, is_reversal, is_reversible, are_reversible, is_nest, is_nest_in}
+use Rattle.carried_out.specs.CarriedOut.{Made, made_leaf, made_block, planned, variable_type, with_type, where_typed, loop_at, scope_below, carried, carried_all, nest, nest_in}
+use Rattle.carried_out.specs.Reversible.{stays_in, all_stay_in, is_reversal, is_reversible, are_reversible, is_nest, is_nest_in}
 use Rattle.apply_rewrite.proofs.Reversals.{left_true, right_true}
 use Rattle.apply_rewrite.proofs.NamesMore.{AnyCall, names_more, uses_more, all_more, part_more, if_more}
 use Rattle.apply_rewrite.proofs.HeadNames.{Named, NamedIf, canonical_named}
-use Rattle.apply_rewrite.proofs.SpentNames.{Spent, spent_many, are_many, draws, length_draws, all_apart, among_differs, draws_spent}
+use Rattle.carried_out.proofs.SpentNames.{Spent, spent_many, are_many, draws, length_draws, all_apart, among_differs, draws_spent}
 use Rattle.apply_rewrite.proofs.OneLoop.{planned_last, value_named, stack_named, stack_stays, stack_plain}
 
 -- ---- the parts of a head that may stand there

@@ -9,7 +9,7 @@ use Rattle.c_semantics.specs.Meaning.Expressions.{Define}
 use Rattle.c_scopes.specs.Laws.{scope_with}
 use Rattle.c_semantics.specs.Meaning.FileVariables.{defines_with}
 use Rattle.loop_normal.specs.DrawnNames.{FreshNames}
-use Rattle.apply_rewrite.specs.CarriedOut.{carried_top, carried_items}
+use Rattle.carried_out.specs.CarriedOut.{carried_top, carried_items}
 
 -- the defines after some items
 abbrev pub defines_after : List Define → Program → List Define

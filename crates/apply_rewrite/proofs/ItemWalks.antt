@@ -8,7 +8,7 @@ use Rattle.c_semantics.specs.Meaning.State.{State}
 use Rattle.c_semantics.specs.Meaning.Expressions.{Define}
 use Rattle.c_scopes.specs.Laws.{scope_with}
 use Rattle.c_semantics.specs.Meaning.FileVariables.{defines_with}
-use Rattle.apply_rewrite.specs.Reversible.{is_reversible_top, are_reversible_items}
+use Rattle.carried_out.specs.Reversible.{is_reversible_top, are_reversible_items}
 
 pub tops_more : (ds : List Define) (s : State) (xs : List Item) (i : ℕ) (x : Item) → i < length xs → x ≡ slice_index_or xs i x →
     are_reversible_items ds s (map bare_top (drop i xs)) ≡ (is_reversible_top ds s (bare_top x) && are_reversible_items (defines_with ds (bare_top x)) (scope_with s (bare_top x)) (map bare_top (drop (i + 1) xs)))

@@ -11,10 +11,10 @@ use Rattle.c_scopes.specs.Laws.{scope_with}
 use Rattle.loop_normal.specs.DrawnNames.{FreshNames, AreDigits}
 use Rattle.apply_rewrite.specs.NoDirectives.{HoldsNoDirective}
 use Rattle.apply_rewrite.specs.Rewritten.{ProgramRewritten}
-use Rattle.apply_rewrite.specs.CarriedOut.{carried_all, carried_items}
-use Rattle.apply_rewrite.specs.Reversible.{are_reversible, are_reversible_items}
+use Rattle.carried_out.specs.CarriedOut.{carried_all, carried_items}
+use Rattle.carried_out.specs.Reversible.{are_reversible, are_reversible_items}
 use Rattle.apply_rewrite.proofs.NamesMore.{AnyCall, all_more}
-use Rattle.apply_rewrite.proofs.SpentNames.{Spent}
+use Rattle.carried_out.proofs.SpentNames.{Spent}
 use Rattle.apply_rewrite.proofs.CarriedOut.{good_stmts}
 use Rattle.apply_rewrite.proofs.Reversals.{left_true, right_true}
 

@@ -7,7 +7,6 @@ pub mod Congruent
 pub mod Programs
 pub mod NamesMore
 pub mod HeadNames
-pub mod SpentNames
 pub mod OneLoop
 pub mod CarriedOut
 pub mod Items

@@ -12,12 +12,12 @@ use Rattle.loop_normal.specs.Templates.{ll, only, LoopNames, SourceLoop, source_
 use Rattle.loop_normal.specs.DrawnNames.{FreshNames, drawn, after_draw, after_draws}
 use Rattle.apply_rewrite.specs.NoBreaks.{NoBreaks}
 use Rattle.apply_rewrite.specs.NoDirectives.{NoDirectives}
-use Rattle.apply_rewrite.specs.Reversible.{is_reversal, are_reversals}
+use Rattle.carried_out.specs.Reversible.{is_reversal, are_reversals}
 use Rattle.apply_rewrite.specs.ReverseStacks.{times_after, times_after_items, reversed_all}
-use Rattle.apply_rewrite.specs.CarriedOut.{made_reverse, planned, items_applied}
+use Rattle.carried_out.specs.CarriedOut.{made_reverse, planned, items_applied}
 use Rattle.apply_rewrite.proofs.Reversals.{left_true, right_true}
 use Rattle.apply_rewrite.proofs.NamesMore.{AnyCall}
-use Rattle.apply_rewrite.proofs.SpentNames.{draws, Each}
+use Rattle.carried_out.proofs.SpentNames.{draws, Each}
 
 -- a loop from 0 round a list, after a front
 abbrev pub one_loop : Stmts → Name → Expr → Parts → Gen

@@ -15,8 +15,8 @@ use Rattle.canonical_nests.proofs.Applied.{seen_item_out}
 use Rattle.canonical_nests.proofs.ForgottenPlans.{plan_is}
 use Rattle.canonical_nests.proofs.HeldTrees.{directive_held}
 use Rattle.loop_normal.specs.Gens.{Gen}
-use Rattle.apply_rewrite.specs.CarriedOut.{Made, planned, items_applied}
-use Rattle.apply_rewrite.specs.Reversible.{is_reversal, are_reversals}
+use Rattle.carried_out.specs.CarriedOut.{Made, planned, items_applied}
+use Rattle.carried_out.specs.Reversible.{is_reversal, are_reversals}
 
 pub directive_plan : (ds : List Define) (d : Directive) (p : PlacedPlan) → p ≡ placed_plan ds (placed_directive d) → forget_plan p ≡ plan_of ds (bare_directive d)
 directive_plan ds d p e = ap forget_plan e ∙ (plan_is ds (placed_directive d) ∙ ap (plan_of ds) (sym (bare_directive_is d)))

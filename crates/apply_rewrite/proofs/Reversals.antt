@@ -9,7 +9,7 @@ use Rattle.c_semantics.specs.Loops.Transformations.{Transformation, tile, interc
 use Rattle.c_semantics.specs.Loops.Need.{depths, applied_depths, if_some, part_depths, below_depths, serves, least_from, need, loops_asked, reach, each_at_least}
 use Rattle.c_semantics.specs.Structure.Parts as shape
 use Rattle.c_semantics.specs.Structure.Parts.{Part, plan_parts, applied_parts}
-use Rattle.apply_rewrite.specs.Reversible.{is_reversal, are_reversals}
+use Rattle.carried_out.specs.Reversible.{is_reversal, are_reversals}
 use Rattle.apply_rewrite.specs.ReverseStacks.{times_after, times_after_items}
 
 pub left_true : (a b : Bool) → (a && b) ≡ true → a ≡ true

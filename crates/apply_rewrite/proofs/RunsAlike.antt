@@ -8,11 +8,11 @@ use Rattle.c_tree.specs.declared.tree.Program as tree
 use Rattle.c_semantics.specs.Meaning.State.{nowhere}
 use Rattle.c_semantics.specs.Meaning.Programs.{outcome, turns_of}
 use Rattle.loop_normal.specs.DrawnNames.{AreDigits}
-use Rattle.apply_rewrite.specs.SourceNames.{beside_program}
-use Rattle.apply_rewrite.specs.CarriedOut.{carried_out}
+use Rattle.carried_out.specs.SourceNames.{beside_program}
+use Rattle.carried_out.specs.CarriedOut.{carried_out}
 use Rattle.apply_rewrite.specs.Laws.{CarriedOutRunsAlike}
 use Rattle.apply_rewrite.specs.NoDirectives.{HoldsNoDirective}
-use Rattle.apply_rewrite.specs.Reversible.{is_reversible_program}
+use Rattle.carried_out.specs.Reversible.{is_reversible_program}
 use Rattle.apply_rewrite.specs.Rewritten.{ProgramRewritten}
 use Rattle.apply_rewrite.proofs.Programs.{outcomes_agree}
 use Rattle.apply_rewrite.proofs.Items.{good_items}

@@ -12,7 +12,7 @@ use Rattle.c_semantics.specs.Meaning.State.{scalar, Cell, Var, State, find, look
 use Rattle.c_semantics.specs.Structure.Skeleton.{scope_after, scope_in}
 use Rattle.c_scopes.specs.Types.{type_held, type_filed, with_params}
 use Rattle.loop_normal.specs.Templates.{SourceLoop}
-use Rattle.apply_rewrite.specs.CarriedOut.{in_head, scope_below}
+use Rattle.carried_out.specs.CarriedOut.{in_head, scope_below}
 use Rattle.apply_rewrite.specs.ScopeOf.{variable_of, with_global}
 use Rattle.apply_rewrite.specs.declared.scope.Variable.{Variable}
 

@@ -22,8 +22,8 @@ use Rattle.loop_normal.specs.Templates.{ll, only, SourceLoop, LoopNames, leaf, s
 use Rattle.loop_normal.specs.DrawnNames.{FreshNames, drawn, loop_names}
 use Rattle.loop_normal.specs.FromZero.{from_zero, after_from_zero}
 use Rattle.permute_reverse.specs.Reversed.{reversed, reversed_gen}
-use Rattle.apply_rewrite.specs.CarriedOut.{Made, made_leaf, made_reverse, planned, items_applied, loop_at, scope_below, carried, carried_all, nest, nest_in, carried_top, carried_items, carried_out}
-use Rattle.apply_rewrite.specs.Reversible.{all_stay_in, is_reversal, are_reversals, is_reversible, are_reversible, is_nest, is_nest_in, are_reversible_items, is_reversible_program}
+use Rattle.carried_out.specs.CarriedOut.{Made, made_leaf, made_reverse, planned, items_applied, loop_at, scope_below, carried, carried_all, nest, nest_in, carried_top, carried_items, carried_out}
+use Rattle.carried_out.specs.Reversible.{all_stay_in, is_reversal, are_reversals, is_reversible, are_reversible, is_nest, is_nest_in, are_reversible_items, is_reversible_program}
 use Rattle.apply_rewrite.proofs.Reversals.{left_true, right_true, part_kept, asks_for_one}
 use Rattle.apply_rewrite.proofs.WellFormedCode.{stays_from_zero}
 

@@ -34,9 +34,10 @@ use Rattle.loop_normal.proofs.Values.{worth}
 use Rattle.permute_reverse.specs.Reversed.{reversed_gen}
 use Rattle.permute_reverse.proofs.Reverse.{reverse_means}
 use Rattle.c_scopes.specs.Types.{type_held, HasTypes}
-use Rattle.apply_rewrite.specs.CarriedOut.{variable_type}
-use Rattle.apply_rewrite.specs.Reversible.{is_reversal}
-use Rattle.apply_rewrite.specs.ReverseStacks.{times_after, LeadsTo, loop_here, in_braces, in_directive, reversed_all, stack_block, AllApart, all_names, IsStack}
+use Rattle.carried_out.specs.CarriedOut.{variable_type}
+use Rattle.carried_out.specs.Reversible.{is_reversal}
+use Rattle.apply_rewrite.specs.ReverseStacks.{times_after, LeadsTo, loop_here, in_braces, in_directive, reversed_all, stack_block, all_names, IsStack}
+use Rattle.carried_out.specs.DistinctNames.{AllApart}
 use Rattle.apply_rewrite.proofs.Reversals.{stacked, trees_reversed, asks_for_one}
 use Rattle.apply_rewrite.proofs.Breaks.{body_never}
 

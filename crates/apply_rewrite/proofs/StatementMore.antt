@@ -20,7 +20,7 @@ use Rattle.loop_normal.specs.Templates.{only}
 use Rattle.loop_normal.specs.DrawnNames.{FreshNames}
 use Rattle.loop_normal.proofs.Trees.{stmts_join}
 use Rattle.apply_rewrite.proofs.Scopes.{all_after}
-use Rattle.apply_rewrite.specs.CarriedOut.{carried, carried_all, nest, nest_in, no_code}
+use Rattle.carried_out.specs.CarriedOut.{carried, carried_all, nest, nest_in, no_code}
 
 done_more : (done : List Stmt) (y : Stmt) → bare_stmts (done ++ y ∷ []) ≡ join (bare_stmts done) (only (bare_stmt y))
 done_more done y = stmts_join done (y ∷ [])

@@ -13,13 +13,13 @@ use Rattle.c_tree.specs.declared.tree.Span.{Span}
 use Rattle.c_tree.specs.declared.tree.Stmt.{Stmt, fold-roll-Stmt}
 use Rattle.c_tree.specs.declared.tree.Stmt.TheVariants as v
 use Rattle.c_tree.specs.declared.tree.Stmt.TheOpen as layer
-use Rattle.apply_rewrite.specs.CarriedOut.{variable_type, with_type, scope_below}
+use Rattle.carried_out.specs.CarriedOut.{variable_type, with_type, scope_below}
 use Rattle.c_tree.proofs.Walks.{rest_more, rest_none}
 use Rattle.c_semantics.specs.Meaning.State.{scalar, State, push}
 use Rattle.c_semantics.specs.Meaning.Expressions.{Define}
 use Rattle.c_semantics.specs.Loops.CanonicalForm.{Canonical, canonical}
 use Rattle.c_semantics.specs.Structure.Skeleton.{scope_after}
-use Rattle.apply_rewrite.specs.Reversible.{stays_in, all_stay_in, is_reversible, are_reversible, is_nest, is_nest_in, may_be_reversed}
+use Rattle.carried_out.specs.Reversible.{stays_in, all_stay_in, is_reversible, are_reversible, is_nest, is_nest_in, may_be_reversed}
 
 pub stay_more : (xs : List Stmt) (i : ℕ) (x : Stmt) → i < length xs → x ≡ slice_index_or xs i x → all_stay_in (bare_stmts (drop i xs)) ≡ (stays_in (bare_stmt x) && all_stay_in (bare_stmts (drop (i + 1) xs)))
 stay_more xs i = rest_more (λ ys. all_stay_in (bare_stmts ys)) xs i

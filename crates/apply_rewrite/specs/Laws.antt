@@ -10,8 +10,8 @@ use Rattle.c_semantics.specs.Structure.Skeleton.{skeleton}
 use Rattle.c_scopes.specs.Types.{HasTypes, EachKeepsFile}
 use Rattle.apply_rewrite.specs.Rewritten.{Rewritten, ProgramRewritten}
 use Rattle.apply_rewrite.specs.NoDirectives.{HoldsNoDirective}
-use Rattle.apply_rewrite.specs.CarriedOut.{carried_out}
-use Rattle.apply_rewrite.specs.Reversible.{is_reversible_program}
+use Rattle.carried_out.specs.CarriedOut.{carried_out}
+use Rattle.carried_out.specs.Reversible.{is_reversible_program}
 
 -- a statement does the same, in every state that has the variables of its scope and at every bound
 abbrev pub StatementsRunAlike : Type 0

@@ -1,10 +1,6 @@
 pub mod NoBreaks
 pub mod NoDirectives
-pub mod SourceNames
 pub mod ScopeOf
-pub mod CarriedOut
-pub mod AllReverse
-pub mod Reversible
 pub mod ReverseStacks
 pub mod Rewritten
 pub mod Laws

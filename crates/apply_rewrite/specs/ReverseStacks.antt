@@ -11,12 +11,13 @@ use Rattle.c_semantics.specs.Loops.Transformations.{Plan, plan, Applied, none_ap
 use Rattle.c_semantics.specs.Laws.Names.{Names}
 use Rattle.loop_normal.specs.Gens.{Gen, emit}
 use Rattle.loop_normal.specs.Templates.{LoopNames, leaf, only}
-use Rattle.loop_normal.specs.FreshNames.{Among, Source, NamesNone, Apart}
+use Rattle.loop_normal.specs.FreshNames.{Among, Source, NamesNone}
 use Rattle.loop_normal.specs.Laws.{source_loop}
 use Rattle.permute_reverse.specs.Reversed.{reversed_gen}
 use Rattle.apply_rewrite.specs.NoBreaks.{NoBreaks}
-use Rattle.apply_rewrite.specs.CarriedOut.{variable_type}
-use Rattle.apply_rewrite.specs.Reversible.{is_reversal}
+use Rattle.carried_out.specs.DistinctNames.{AllApart}
+use Rattle.carried_out.specs.CarriedOut.{variable_type}
+use Rattle.carried_out.specs.Reversible.{is_reversal}
 
 -- how often a loop is reversed after a plan that only reverses, where before it was k times
 abbrev mutual
@@ -42,11 +43,6 @@ reversed_all (r ∷ rs) g = reversed_all rs (reversed_gen r g)
 -- the block that stands for the directives and their loop
 abbrev pub stack_block : LoopNames → List Name → Canonical → Ty → Stmts → Stmt
 stack_block m rs c T body = block (emit (reversed_all rs (leaf m (source_loop c T) body)))
-
--- each name once
-abbrev pub AllApart : List Name → Type 0
-AllApart [] = Unit {0}
-AllApart (x ∷ xs) = Apart x xs × AllApart xs
 
 abbrev pub all_names : LoopNames → List Name → List Name
 all_names m rs = m.begin ∷ m.end ∷ m.count ∷ m.counter ∷ rs

@@ -12,7 +12,7 @@ use Rattle.c_semantics.specs.Structure.Skeleton.{scope_after, scope_in}
 use Rattle.c_scopes.specs.Types.{with_params}
 use Rattle.c_scopes.specs.Laws.{scope_with}
 use Rattle.loop_normal.specs.Templates.{LoopNames}
-use Rattle.apply_rewrite.specs.Reversible.{is_reversal}
+use Rattle.carried_out.specs.Reversible.{is_reversal}
 use Rattle.apply_rewrite.specs.ReverseStacks.{times_after, LeadsTo, stack_block, IsStack}
 
 -- a statement without a list in it

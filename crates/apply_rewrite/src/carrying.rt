@@ -11,7 +11,7 @@ ghost use Rattle.canonical_nests.specs.Canonical.{program_defines};
 ghost use Rattle.loop_normal.specs.Gens as g;
 ghost use Rattle.loop_normal.specs.GenOf.{bare_gen};
 ghost use Rattle.loop_normal.specs.SourceOf.{source_of};
-ghost use Rattle.apply_rewrite.specs.CarriedOut as c;
+ghost use Rattle.carried_out.specs.CarriedOut as c;
 
 use crate::heads::typed_head;
 use crate::plans::{plan, planned};

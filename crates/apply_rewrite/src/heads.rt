@@ -8,7 +8,7 @@ ghost use Rattle.c_tree.specs.WellFormed.{WellFormedHead, WellFormedStmt};
 ghost use Rattle.canonical_nests.specs.Canonical.{canonical_stmt, program_defines, seen_loop, test_op};
 ghost use Rattle.loop_normal.specs.SourceOf.{source_of};
 ghost use Rattle.loop_normal.specs.Laws.{source_loop};
-ghost use Rattle.apply_rewrite.specs.CarriedOut as c;
+ghost use Rattle.carried_out.specs.CarriedOut as c;
 
 use crate::scope::Scope;
 use c_tree::copy::copy_expr;

@@ -9,8 +9,8 @@ ghost use Rattle.canonical_nests.specs.Canonical.{program_defines};
 ghost use Rattle.canonical_nests.specs.LoopRules.PlacedPlans.{forget_items, forget_plan};
 ghost use Rattle.canonical_nests.specs.Plans.{gather, seen_item, seen_plan, seen_transformation};
 ghost use Rattle.loop_normal.specs.GenOf.{bare_gen};
-ghost use Rattle.apply_rewrite.specs.CarriedOut as c;
-ghost use Rattle.apply_rewrite.specs.Reversible as r;
+ghost use Rattle.carried_out.specs.CarriedOut as c;
+ghost use Rattle.carried_out.specs.Reversible as r;
 
 use c_tree::tree::{Directive, Program};
 use canonical_nests::directive_plan::plan_of;

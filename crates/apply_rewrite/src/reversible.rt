@@ -5,7 +5,7 @@ ghost use Rattle.c_tree.specs.BareOf.{bare_program, bare_stmt, bare_stmts, bare_
 ghost use Rattle.c_tree.specs.Constants.{DefinesAreHeld};
 ghost use Rattle.c_tree.specs.WellFormed.{WellFormedStmt, WellFormedStmts, WellFormedTop, WellFormedTops};
 ghost use Rattle.canonical_nests.specs.Canonical.{canonical_stmt, program_defines};
-ghost use Rattle.apply_rewrite.specs.Reversible as r;
+ghost use Rattle.carried_out.specs.Reversible as r;
 
 use crate::defines::with_define;
 use crate::heads::variable_type;

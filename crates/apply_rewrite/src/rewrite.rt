@@ -8,9 +8,9 @@ ghost use Rattle.c_semantics.specs.Meaning.State.{nowhere};
 ghost use Rattle.c_scopes.specs.Types.{with_params};
 ghost use Rattle.c_semantics.specs.Meaning.Programs.{outcome, turns_of};
 ghost use Rattle.canonical_nests.specs.Canonical.{program_defines};
-ghost use Rattle.apply_rewrite.specs.CarriedOut as c;
+ghost use Rattle.carried_out.specs.CarriedOut as c;
 ghost use Rattle.apply_rewrite.specs.NoDirectives.{HoldsNoDirective};
-ghost use Rattle.apply_rewrite.specs.Reversible.{is_reversible_program};
+ghost use Rattle.carried_out.specs.Reversible.{is_reversible_program};
 ghost use Rattle.apply_rewrite.specs.Rewritten.{ProgramRewritten};
 
 use crate::carrying::carried_all;

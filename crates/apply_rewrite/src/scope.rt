@@ -8,7 +8,7 @@ ghost use Rattle.c_semantics.specs.Structure.Skeleton.{scope_after};
 ghost use Rattle.c_scopes.specs.Laws.{scope_with};
 ghost use Rattle.c_scopes.specs.Types.{type_filed, type_held, type_seen, with_params};
 ghost use Rattle.loop_normal.specs.SourceOf.{source_of};
-ghost use Rattle.apply_rewrite.specs.CarriedOut.{in_head, scope_below};
+ghost use Rattle.carried_out.specs.CarriedOut.{in_head, scope_below};
 ghost use Rattle.apply_rewrite.specs.ScopeOf.{variable_of, with_global};
 
 use c_tree::boxed::Boxed;

@@ -7,7 +7,7 @@ use Rattle.c_tree.specs.Height.{program_height}
 use Rattle.c_tree.specs.declared.tree.Program.{Program}
 use Rattle.canonical_nests.specs.Admitted.{IsAdmitted}
 use Rattle.canonical_nests.specs.TallHeight.{tall_height}
-use Rattle.apply_rewrite.specs.CarriedOut.{carried_out}
+use Rattle.carried_out.specs.CarriedOut.{carried_out}
 
 -- no higher than the tall height of the source
 abbrev pub CarriedOutIsNoHigher : Type 0

@@ -5,7 +5,7 @@ use Rattle.std.proofs.lemmas.Bool.{both_ways}
 use Rattle.c_tree.specs.Bare.{Name}
 use Rattle.loop_normal.specs.DrawnNames.{FreshNames, drawn, after_draw, after_draws, AreDigits}
 use Rattle.loop_normal.proofs.FreshFrames.{same_name}
-use Rattle.apply_rewrite.proofs.SpentNames.{Spent, are_many}
+use Rattle.carried_out.proofs.SpentNames.{Spent, are_many}
 
 many_more : (j k : ℕ) (f : FreshNames) → after_draws k (after_draws j f) ≡ after_draws (j + k) f
 many_more zero k f = let e : k ≡ 0 + k = omega arith in ap (λ n. after_draws n f) e

@@ -4,7 +4,7 @@ use Rattle.std.specs.Prelude.{nat_le, if◌then◌else◌, unwrap_or}
 use Rattle.std.proofs.lemmas.Bool.{both_ways, leb-true, le-leb}
 use Rattle.c_semantics.specs.Loops.Transformations.{tile, interchange, reverse_, split, fuse, unroll_full, unroll_partial, Plan, plan, Applied, none_applied, applied_at}
 use Rattle.c_semantics.specs.Loops.Need.{nested_depths, part_depths, below_depths, depths, applied_depths, if_some, serves, each_at_least, least_from, reach, loops_asked}
-use Rattle.apply_rewrite.specs.Reversible.{is_reversal, are_reversals}
+use Rattle.carried_out.specs.Reversible.{is_reversal, are_reversals}
 use Rattle.carried_names.proofs.Walk.{left_true, right_true}
 
 -- over one loop it gives one

@@ -25,9 +25,9 @@ use Rattle.canonical_nests.specs.LoopRules.Heads.{Changes, init_of, scope_below,
 use Rattle.canonical_nests.specs.LoopRules.Structure as structure
 use Rattle.canonical_nests.specs.LoopRules.Counts as counts
 use Rattle.canonical_nests.specs.LoopRules.Programs.{clause_breaches, stmt_breaches, stmts_breaches, breaches_from, nest_breaches, height_breaches, weight_breaches, first_directive}
-use Rattle.apply_rewrite.specs.CarriedOut as c
-use Rattle.apply_rewrite.specs.CarriedOut.{loop_at, in_head}
-use Rattle.apply_rewrite.specs.Reversible.{all_stay_in, is_reversal, is_reversible, are_reversible, is_nest, is_nest_in, are_reversible_items, is_reversible_program}
+use Rattle.carried_out.specs.CarriedOut as c
+use Rattle.carried_out.specs.CarriedOut.{loop_at, in_head}
+use Rattle.carried_out.specs.Reversible.{all_stay_in, is_reversal, is_reversible, are_reversible, is_nest, is_nest_in, are_reversible_items, is_reversible_program}
 use Rattle.carried_names.specs.BoundsApart.{HasBoundsApart, HaveBoundsApart, LeadsToBoundsApart, IsWithBoundsApart, ItemsHaveBoundsApart}
 use Rattle.carried_names.specs.Laws.{AdmittedHaveBoundsApart, AdmittedCarriedOutBreaksNone}
 use Rattle.carried_names.proofs.ReversalNeed.{asks_one}

@@ -8,8 +8,8 @@ use Rattle.c_soundness.proofs.Files.{one_name}
 use Rattle.loop_normal.specs.DrawnNames.{FreshNames, drawn, after_draw, AreDigits}
 use Rattle.loop_normal.proofs.FreshFrames.{same_name}
 use Rattle.loop_normal.proofs.Drawn.{drawn_is_untaken}
-use Rattle.apply_rewrite.specs.SourceNames.{begins_like_fresh, kept, expr_names, exprs_names, option_names, stmt_names, stmts_names, part_names, head_names, params_names, top_names, program_names, beside_program}
-use Rattle.apply_rewrite.proofs.SpentNames.{Spent, after_are}
+use Rattle.carried_out.specs.SourceNames.{begins_like_fresh, kept, expr_names, exprs_names, option_names, stmt_names, stmts_names, part_names, head_names, params_names, top_names, program_names, beside_program}
+use Rattle.carried_out.proofs.SpentNames.{Spent, after_are}
 use Rattle.carried_names.proofs.Fresh.{Source, source}
 use Rattle.carried_names.proofs.Declares.{Declares, DeclareAll, DeclaresIf}
 

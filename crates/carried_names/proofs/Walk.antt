@@ -23,8 +23,8 @@ use Rattle.c_soundness.proofs.Fits.{none_if}
 use Rattle.c_soundness.proofs.Files.{one_name}
 use Rattle.loop_normal.specs.DrawnNames.{FreshNames, AreDigits}
 use Rattle.loop_normal.specs.Laws.{source_loop}
-use Rattle.apply_rewrite.specs.CarriedOut.{Made, made_leaf, planned, variable_type, with_type, where_typed, loop_at, scope_below, in_head, carried, carried_all, nest, nest_in}
-use Rattle.apply_rewrite.specs.Reversible.{all_stay_in, is_reversal, is_reversible, are_reversible, is_nest, is_nest_in}
+use Rattle.carried_out.specs.CarriedOut.{Made, made_leaf, planned, variable_type, with_type, where_typed, loop_at, scope_below, in_head, carried, carried_all, nest, nest_in}
+use Rattle.carried_out.specs.Reversible.{all_stay_in, is_reversal, is_reversible, are_reversible, is_nest, is_nest_in}
 use Rattle.carried_names.specs.BoundsApart.{ApartIfDeclared, BoundsApart, HasBoundsApart, HaveBoundsApart, LeadsToBoundsApart, IsWithBoundsApart}
 use Rattle.carried_names.proofs.Fresh.{Source, Reached}
 use Rattle.carried_names.proofs.Declares.{Declares, DeclareAll, DeclaresIf}

@@ -10,8 +10,8 @@ use Rattle.c_soundness.specs.NameBreaches.{BreaksNone}
 use Rattle.canonical_nests.specs.Admitted.{IsAdmitted}
 use Rattle.canonical_nests.specs.LoopRules.BreachSets.{HasNone}
 use Rattle.canonical_nests.specs.LoopRules.Programs.{nest_breaches}
-use Rattle.apply_rewrite.specs.CarriedOut.{carried_out}
-use Rattle.apply_rewrite.specs.Reversible.{is_reversible_program}
+use Rattle.carried_out.specs.CarriedOut.{carried_out}
+use Rattle.carried_out.specs.Reversible.{is_reversible_program}
 use Rattle.carried_names.specs.BoundsApart.{LoopsHaveBoundsApart}
 
 -- it breaks none of the rules N1 to N12 where the source breaks none

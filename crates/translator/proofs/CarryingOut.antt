@@ -10,9 +10,9 @@ use Rattle.c_soundness.specs.NameBreaches.{BreaksNone}
 use Rattle.c_meaning.specs.Plain.{is_plain_stmt, are_plain_stmts, is_plain_part, is_plain}
 use Rattle.canonical_nests.specs.LoopRules.Programs.{first_directive}
 use Rattle.apply_rewrite.specs.NoDirectives.{NoDirective, NoDirectives, NoDirectiveIf, HoldsNoDirective}
-use Rattle.apply_rewrite.specs.CarriedOut.{carried_out}
+use Rattle.carried_out.specs.CarriedOut.{carried_out}
 use Rattle.loop_normal.specs.DrawnNames.{AreDigits}
-use Rattle.apply_rewrite.specs.SourceNames.{beside_program}
+use Rattle.carried_out.specs.SourceNames.{beside_program}
 use Rattle.apply_rewrite.proofs.Programs.{outcomes_agree}
 use Rattle.apply_rewrite.proofs.Items.{good_items}
 use Rattle.apply_rewrite.proofs.SourceNames.{source_spent}

@@ -18,8 +18,8 @@ use Rattle.c_semantics.specs.Structure.Skeleton.{skeleton}
 use Rattle.c_meaning.specs.Plain.{is_plain}
 use Rattle.c_soundness.specs.NameBreaches.{BreaksNone}
 use Rattle.canonical_nests.specs.LoopRules.Programs.{first_directive}
-use Rattle.apply_rewrite.specs.Reversible.{is_reversible_program}
-use Rattle.apply_rewrite.specs.CarriedOut.{carried_out}
+use Rattle.carried_out.specs.Reversible.{is_reversible_program}
+use Rattle.carried_out.specs.CarriedOut.{carried_out}
 use Rattle.translator.specs.declared.refusal.Refusal.{Refusal}
 use Rattle.translator.specs.declared.refusal.Refusal.TheVariants.{Lex, Parse, Names, NotBuilt, Memory}
 

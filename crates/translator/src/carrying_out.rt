@@ -7,7 +7,7 @@ ghost use Rattle.c_tree.specs.Height.{program_height};
 ghost use Rattle.c_tree.specs.PlacedOf.{placed_program};
 ghost use Rattle.c_tree.specs.WellFormed.{WellFormed};
 ghost use Rattle.c_soundness.specs.NameBreaches.{BreaksNone};
-ghost use Rattle.apply_rewrite.specs.CarriedOut.{carried_out};
+ghost use Rattle.carried_out.specs.CarriedOut.{carried_out};
 ghost use Rattle.translator.specs.Answers.{CannotBeReversed, CannotStand, IsReversible, IsUnbuilt, StandsFor};
 
 use crate::refusal::Refusal;

@@ -2,7 +2,7 @@ use Rattle.std.proofs.Common.{◌≡◌, ◌++◌}
 use Rattle.std.specs.Vec.Iter.{into_iter_items}
 use Rattle.c_tree.specs.BareOf.{bare_program, bare_stmts}
 use Rattle.canonical_nests.specs.Canonical.{program_defines}
-use Rattle.apply_rewrite.specs.CarriedOut.{carried_all}
+use Rattle.carried_out.specs.CarriedOut.{carried_all}
 use Rattle.apply_rewrite.proofs.Scopes.{all_after}
 use Rattle.apply_rewrite.proofs.carrying.+carrying.Given as goal
 

@@ -1,7 +1,7 @@
 use Rattle.std.proofs.Common.{◌≡◌, map, drop}
 use Rattle.canonical_nests.specs.LoopRules.PlacedPlans.{forget_items}
 use Rattle.canonical_nests.specs.Plans.{seen_item, gather}
-use Rattle.apply_rewrite.specs.Reversible.{are_reversals}
+use Rattle.carried_out.specs.Reversible.{are_reversals}
 use Rattle.apply_rewrite.proofs.plans.+is_reversal.Given as goal
 
 -- What is left decides.

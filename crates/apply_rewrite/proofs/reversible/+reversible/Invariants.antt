@@ -3,7 +3,7 @@ use Rattle.c_tree.specs.BareOf.{bare_program, bare_stmts}
 use Rattle.c_tree.specs.WellFormed.{WellFormedStmts}
 use Rattle.c_semantics.specs.Meaning.State.{keep, with_frame}
 use Rattle.canonical_nests.specs.Canonical.{program_defines}
-use Rattle.apply_rewrite.specs.Reversible.{are_reversible}
+use Rattle.carried_out.specs.Reversible.{are_reversible}
 use Rattle.apply_rewrite.proofs.reversible.+reversible.Given as goal
 
 -- What is left decides, and is well formed; without the variables of the list what is visible is what was.

@@ -1,6 +1,6 @@
 use Rattle.std.proofs.Common.{◌≡◌, drop}
 use Rattle.c_tree.specs.BareOf.{bare_stmts}
-use Rattle.apply_rewrite.specs.Reversible.{all_stay_in}
+use Rattle.carried_out.specs.Reversible.{all_stay_in}
 use Rattle.apply_rewrite.proofs.reversible.+staying.Given as goal
 
 -- What is left decides.

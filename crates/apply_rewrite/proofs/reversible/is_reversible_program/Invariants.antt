@@ -4,7 +4,7 @@ use Rattle.c_tree.specs.Constants.{DefinesAreHeld}
 use Rattle.c_tree.specs.WellFormed.{WellFormedTops}
 use Rattle.c_semantics.specs.Meaning.State.{nowhere}
 use Rattle.canonical_nests.specs.Canonical.{program_defines}
-use Rattle.apply_rewrite.specs.Reversible.{are_reversible_items}
+use Rattle.carried_out.specs.Reversible.{are_reversible_items}
 use Rattle.apply_rewrite.proofs.reversible.is_reversible_program.Given as goal
 
 -- What is left decides, after the defines and the variables so far, and is well formed.

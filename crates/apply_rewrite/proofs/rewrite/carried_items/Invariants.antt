@@ -5,7 +5,7 @@ use Rattle.c_tree.specs.Constants.{DefinesAreHeld}
 use Rattle.c_tree.specs.WellFormed.{WellFormedTops}
 use Rattle.c_semantics.specs.Meaning.State.{nowhere}
 use Rattle.canonical_nests.specs.Canonical.{program_defines}
-use Rattle.apply_rewrite.specs.CarriedOut.{carried_items}
+use Rattle.carried_out.specs.CarriedOut.{carried_items}
 use Rattle.apply_rewrite.proofs.ItemMore.{defines_after, scopes_after}
 use Rattle.apply_rewrite.proofs.rewrite.carried_items.Given as goal
 

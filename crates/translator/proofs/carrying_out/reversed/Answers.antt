@@ -2,7 +2,7 @@
 use Rattle.std.proofs.Common.{◌≡◌, true, ap, sym, subst, ◌∙◌}
 use Rattle.c_tree.specs.BareOf.{bare_program}
 use Rattle.c_tree.specs.WellFormed.{WellFormed}
-use Rattle.apply_rewrite.specs.Reversible.{is_reversible_program}
+use Rattle.carried_out.specs.Reversible.{is_reversible_program}
 use Rattle.apply_rewrite.proofs.WellFormedCode.{stays_well_formed}
 use Rattle.translator.proofs.carrying_out.reversed.Goals as goal
 

@@ -10,7 +10,7 @@ use Rattle.loop_normal.specs.DrawnNames.{FreshNames, next_digits, numbered, unta
 use Rattle.loop_normal.specs.FreshNames.{Among, Apart}
 use Rattle.loop_normal.proofs.FreshFrames.{differ_sym}
 use Rattle.loop_normal.proofs.Drawn.{drawn_once}
-use Rattle.apply_rewrite.specs.ReverseStacks.{AllApart}
+use Rattle.carried_out.specs.DistinctNames.{AllApart}
 
 -- ---- the digits stay digits
 
