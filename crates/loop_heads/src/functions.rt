@@ -3,7 +3,7 @@
 ghost use Rattle.std.specs.Prelude.{◌≡◌, ◌∷◌, [], OnOk, Option, Some, None, bytes_eq, if◌then◌else◌};
 ghost use Rattle.std.specs.Option.{option_copied};
 ghost use Rattle.c_semantics.specs.Meaning.FileVariables as files;
-ghost use Rattle.loop_heads.specs.Touching.{Gains, or_no_access};
+ghost use Rattle.loop_heads.specs.Touching.{AreSame, Gains, or_no_access};
 
 use crate::names::Names;
 use c_tree::name::Name;
@@ -73,6 +73,15 @@ impl Functions {
             alloc,
             table: IndexMap::new(alloc),
         }
+    }
+
+    /// Makes known what a function reads and assigns, in place of what was known of one of that name.
+    pub fn add(&mut self, function: &Name, touched: Touched) -> Result<(), AllocError>
+        ensures { OnOk result (AreSame (record { name = function.now; access = touched } ∷ self.old) self.new) }
+    {
+        let key = function.copy(self.alloc)?;
+        self.table.insert(key, touched)?;
+        Ok(())
     }
 
     /// What a function reads and assigns, and `None` only of one that isn't known.

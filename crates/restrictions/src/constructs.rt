@@ -13,46 +13,25 @@ ghost use Rattle.canonical_nests.specs.LoopRules.Programs as programs;
 use c_tree::tree::{Directive, Stmt};
 use canonical_nests::rules::LoopBreach;
 use loop_counts::scope::Scope;
+use loop_heads::functions::Functions;
 use std::alloc::{AllocError, Global};
-
-/// What tests the heads of a construct's affected loops, with what it knows of the functions before the construct.
-pub trait HeadRules {
-    ghost use Rattle.std.specs.Prelude.{List};
-    ghost use Rattle.c_semantics.specs.Meaning.FileVariables.{FunctionAccess};
-
-    /// What each function accesses; the first of a name counts.
-    ghost known: { Self → List FunctionAccess };
-
-    /// The least breach of the rules of heads in a construct. Afterwards the same is visible as before.
-    fn heads_breach<'p>(
-        &self,
-        alloc: Global,
-        body: &'p [Stmt],
-        directive: &'p Directive,
-        scope: &mut Scope<'p>,
-    ) -> Result<Option<LoopBreach>, AllocError>
-        requires body { WellFormedStmts (bare_stmts body.now) }
-        requires directive { WellFormedDirective (bare_directive directive.now) }
-        ensures breach { IfOk result (λ b. b ≡ least (rules.construct_breaches scope.old.defines (known self.now) scope.old.state (placed_directive directive.now) (placed_stmts body.now))) }
-        ensures scope { OnOk result (scope.new ≡ scope.old) };
-}
 
 /// The least breach of the rules of heads, else of those of counts.
 #[tactic(auto, using(crate::proofs::Tiers::tiers))]
-fn late_breach<'p, H: HeadRules>(
+fn late_breach<'p>(
     alloc: Global,
-    heads: &H,
+    functions: &'p Functions,
     body: &'p [Stmt],
     directive: &'p Directive,
     scope: &mut Scope<'p>,
 ) -> Result<Option<LoopBreach>, AllocError>
     requires body { WellFormedStmts (bare_stmts body.now) }
     requires directive { WellFormedDirective (bare_directive directive.now) }
-    ensures breach { IfOk result (λ b. b ≡ least (or_else (rules.construct_breaches scope.old.defines (H.known heads.now) scope.old.state (placed_directive directive.now) (placed_stmts body.now))
+    ensures breach { IfOk result (λ b. b ≡ least (or_else (rules.construct_breaches scope.old.defines functions.now scope.old.state (placed_directive directive.now) (placed_stmts body.now))
         (counts.construct_breaches scope.old.defines scope.old.state (placed_directive directive.now) (placed_stmts body.now)))) }
     ensures scope { OnOk result (scope.new ≡ scope.old) }
 {
-    match heads.heads_breach(alloc, body, directive, scope)? {
+    match loop_heads::construct::construct_breach(alloc, functions, scope, directive, body)? {
         Some(breach) => Ok(Some(breach)),
         None => {
             let below = loop_counts::construct::construct_breach(alloc, body, directive, 0, scope)?;
@@ -63,9 +42,9 @@ fn late_breach<'p, H: HeadRules>(
 
 /// The least breach of the rules of structure, else of those of heads and counts.
 #[tactic(auto, using(crate::proofs::Tiers::tiers))]
-fn structure_breach<'p, H: HeadRules>(
+fn structure_breach<'p>(
     alloc: Global,
-    heads: &H,
+    functions: &'p Functions,
     body: &'p [Stmt],
     directive: &'p Directive,
     scope: &mut Scope<'p>,
@@ -73,14 +52,14 @@ fn structure_breach<'p, H: HeadRules>(
     requires body { WellFormedStmts (bare_stmts body.now) }
     requires directive { WellFormedDirective (bare_directive directive.now) }
     ensures breach { IfOk result (λ b. b ≡ least (or_else (structure.construct_breaches scope.old.defines (placed_directive directive.now) (placed_stmts body.now))
-        (or_else (rules.construct_breaches scope.old.defines (H.known heads.now) scope.old.state (placed_directive directive.now) (placed_stmts body.now))
+        (or_else (rules.construct_breaches scope.old.defines functions.now scope.old.state (placed_directive directive.now) (placed_stmts body.now))
         (counts.construct_breaches scope.old.defines scope.old.state (placed_directive directive.now) (placed_stmts body.now))))) }
     ensures scope { OnOk result (scope.new ≡ scope.old) }
 {
     match loop_structure::construct::construct_breach(alloc, &*scope, directive, body)? {
         Some(breach) => Ok(Some(breach)),
         None => {
-            let below = late_breach(alloc, heads, body, directive, scope)?;
+            let below = late_breach(alloc, functions, body, directive, scope)?;
             Ok(below)
         }
     }
@@ -90,22 +69,22 @@ fn structure_breach<'p, H: HeadRules>(
 /// `None` exactly where it breaks none. Other constructs in its body are not looked at, and afterwards the same is
 /// visible as before.
 #[tactic(auto, using(crate::proofs::Tiers::tiers))]
-pub fn construct_breach<'p, H: HeadRules>(
+pub fn construct_breach<'p>(
     alloc: Global,
-    heads: &H,
+    functions: &'p Functions,
     body: &'p [Stmt],
     directive: &'p Directive,
     scope: &mut Scope<'p>,
 ) -> Result<Option<LoopBreach>, AllocError>
     requires body { WellFormedStmts (bare_stmts body.now) }
     requires directive { WellFormedDirective (bare_directive directive.now) }
-    ensures breach { IfOk result (λ b. b ≡ least (programs.construct_breaches scope.old.defines (H.known heads.now) scope.old.state (placed_directive directive.now) (placed_stmts body.now))) }
+    ensures breach { IfOk result (λ b. b ≡ least (programs.construct_breaches scope.old.defines functions.now scope.old.state (placed_directive directive.now) (placed_stmts body.now))) }
     ensures scope { OnOk result (scope.new ≡ scope.old) }
 {
     match loop_clauses::construct::construct_breach(alloc, &*scope, directive, body)? {
         Some(breach) => Ok(Some(breach)),
         None => {
-            let below = structure_breach(alloc, heads, body, directive, scope)?;
+            let below = structure_breach(alloc, functions, body, directive, scope)?;
             Ok(below)
         }
     }

@@ -12,7 +12,7 @@ ghost use Rattle.canonical_nests.specs.LoopRules.BreachSets.{least};
 ghost use Rattle.canonical_nests.specs.LoopRules.Programs as programs;
 ghost use Rattle.restrictions.specs.Walks.{for_state, own_breaches};
 
-use crate::constructs::{HeadRules, construct_breach};
+use crate::constructs::construct_breach;
 use crate::scopes::enter_loop;
 use c_tree::tree::{Directive, ForHead, Stmt};
 use canonical_nests::directive_plan::loops_asked_by;
@@ -20,6 +20,7 @@ use canonical_nests::least::lesser;
 use canonical_nests::rules::LoopBreach;
 use loop_counts::scope::Scope;
 use loop_counts::shapes::declare;
+use loop_heads::functions::Functions;
 use std::alloc::{AllocError, Global};
 
 /// What a well-formed directive asks of its body.
@@ -38,9 +39,9 @@ fn asked_by(
 
 /// The least breach of a construct, unless a directive round it takes it.
 #[tactic(auto, using(crate::proofs::Walks::own))]
-fn own_breach<'p, H: HeadRules>(
+fn own_breach<'p>(
     alloc: Global,
-    heads: &H,
+    functions: &'p Functions,
     body: &'p [Stmt],
     directive: &'p Directive,
     wanted: u64,
@@ -48,13 +49,13 @@ fn own_breach<'p, H: HeadRules>(
 ) -> Result<Option<LoopBreach>, AllocError>
     requires body { WellFormedStmts (bare_stmts body.now) }
     requires directive { WellFormedDirective (bare_directive directive.now) }
-    ensures breach { IfOk result (λ b. b ≡ least (own_breaches scope.old.defines (H.known heads.now) scope.old.state wanted (placed_directive directive.now) (placed_stmts body.now))) }
+    ensures breach { IfOk result (λ b. b ≡ least (own_breaches scope.old.defines functions.now scope.old.state wanted (placed_directive directive.now) (placed_stmts body.now))) }
     ensures scope { OnOk result (scope.new ≡ scope.old) }
 {
     if wanted != 0 {
         return Ok(None);
     }
-    let own = construct_breach(alloc, heads, body, directive, scope)?;
+    let own = construct_breach(alloc, functions, body, directive, scope)?;
     Ok(own)
 }
 
@@ -62,42 +63,42 @@ fn own_breach<'p, H: HeadRules>(
 /// does. Afterwards the same is visible as before.
 #[tactic(auto, using(crate::proofs::Walks::kinds))]
 #[cycle(stmt_breach)]
-fn stmt_breach<'p, H: HeadRules>(
+fn stmt_breach<'p>(
     alloc: Global,
     stmt: &'p Stmt,
-    heads: &H,
+    functions: &'p Functions,
     wanted: u64,
     scope: &mut Scope<'p>,
 ) -> Result<Option<LoopBreach>, AllocError>
     requires { WellFormedStmt (bare_stmt stmt.now) }
-    ensures breach { IfOk result (λ b. b ≡ least (programs.stmt_breaches scope.old.defines (H.known heads.now) scope.old.state wanted (placed_stmt stmt.now))) }
+    ensures breach { IfOk result (λ b. b ≡ least (programs.stmt_breaches scope.old.defines functions.now scope.old.state wanted (placed_stmt stmt.now))) }
     ensures scope { OnOk result (scope.new ≡ scope.old) }
 {
     match stmt {
         Stmt::If { yes, no, .. } => {
-            let first = stmts_breach(alloc, yes.as_slice(), heads, 0, scope)?;
+            let first = stmts_breach(alloc, yes.as_slice(), functions, 0, scope)?;
             match no {
                 None => Ok(first),
                 Some(no) => {
-                    let second = stmts_breach(alloc, no.as_slice(), heads, 0, scope)?;
+                    let second = stmts_breach(alloc, no.as_slice(), functions, 0, scope)?;
                     Ok(lesser(first, second))
                 }
             }
         }
         Stmt::While { body, .. } => {
-            let below = stmts_breach(alloc, body.as_slice(), heads, 0, scope)?;
+            let below = stmts_breach(alloc, body.as_slice(), functions, 0, scope)?;
             Ok(below)
         }
         Stmt::Do { body, .. } => {
-            let below = stmts_breach(alloc, body.as_slice(), heads, 0, scope)?;
+            let below = stmts_breach(alloc, body.as_slice(), functions, 0, scope)?;
             Ok(below)
         }
         Stmt::For { head, body, .. } => {
-            let below = loop_breach(alloc, body.as_slice(), heads, head, wanted, scope)?;
+            let below = loop_breach(alloc, body.as_slice(), functions, head, wanted, scope)?;
             Ok(below)
         }
         Stmt::Block { body, .. } => {
-            let below = stmts_breach(alloc, body.as_slice(), heads, wanted, scope)?;
+            let below = stmts_breach(alloc, body.as_slice(), functions, wanted, scope)?;
             Ok(below)
         }
         Stmt::Omp {
@@ -105,7 +106,7 @@ fn stmt_breach<'p, H: HeadRules>(
             body,
             ..
         } => {
-            let found = omp_breach(alloc, body.as_slice(), heads, directive, wanted, scope)?;
+            let found = omp_breach(alloc, body.as_slice(), functions, directive, wanted, scope)?;
             Ok(found)
         }
         Stmt::Decl { .. }
@@ -123,45 +124,45 @@ fn stmt_breach<'p, H: HeadRules>(
 /// The least breach in the body of a loop.
 #[tactic(auto, using(crate::proofs::Visibility::left))]
 #[cycle(stmt_breach)]
-fn loop_breach<'p, H: HeadRules>(
+fn loop_breach<'p>(
     alloc: Global,
     body: &'p [Stmt],
-    heads: &H,
+    functions: &'p Functions,
     head: &'p ForHead,
     wanted: u64,
     scope: &mut Scope<'p>,
 ) -> Result<Option<LoopBreach>, AllocError>
     requires body { WellFormedStmts (bare_stmts body.now) }
     requires head { WellFormedHead (bare_head head.now) }
-    ensures breach { IfOk result (λ b. b ≡ least (programs.stmts_breaches scope.old.defines (H.known heads.now) (for_state scope.old.defines scope.old.state wanted (placed_head head.now)) (wanted - 1) (placed_stmts body.now))) }
+    ensures breach { IfOk result (λ b. b ≡ least (programs.stmts_breaches scope.old.defines functions.now (for_state scope.old.defines scope.old.state wanted (placed_head head.now)) (wanted - 1) (placed_stmts body.now))) }
     ensures scope { OnOk result (scope.new ≡ scope.old) }
 {
     let round = scope.len();
     enter_loop(scope, head, wanted)?;
-    let below = stmts_breach(alloc, body, heads, wanted.saturating_sub(1), scope)?;
+    let below = stmts_breach(alloc, body, functions, wanted.saturating_sub(1), scope)?;
     scope.keep(round);
     Ok(below)
 }
 
 /// The least breach of a construct, where no directive round it takes it, and of those in its body.
 #[cycle(stmt_breach)]
-fn omp_breach<'p, H: HeadRules>(
+fn omp_breach<'p>(
     alloc: Global,
     body: &'p [Stmt],
-    heads: &H,
+    functions: &'p Functions,
     directive: &'p Directive,
     wanted: u64,
     scope: &mut Scope<'p>,
 ) -> Result<Option<LoopBreach>, AllocError>
     requires body { WellFormedStmts (bare_stmts body.now) }
     requires directive { WellFormedDirective (bare_directive directive.now) }
-    ensures breach { IfOk result (λ b. b ≡ sets.lesser (least (own_breaches scope.old.defines (H.known heads.now) scope.old.state wanted (placed_directive directive.now) (placed_stmts body.now)))
-        (least (programs.stmts_breaches scope.old.defines (H.known heads.now) scope.old.state (need.loops_asked (directives.plan_of scope.old.defines (forget_directive (placed_directive directive.now))) wanted) (placed_stmts body.now)))) }
+    ensures breach { IfOk result (λ b. b ≡ sets.lesser (least (own_breaches scope.old.defines functions.now scope.old.state wanted (placed_directive directive.now) (placed_stmts body.now)))
+        (least (programs.stmts_breaches scope.old.defines functions.now scope.old.state (need.loops_asked (directives.plan_of scope.old.defines (forget_directive (placed_directive directive.now))) wanted) (placed_stmts body.now)))) }
     ensures scope { OnOk result (scope.new ≡ scope.old) }
 {
-    let own = own_breach(alloc, heads, body, directive, wanted, scope)?;
+    let own = own_breach(alloc, functions, body, directive, wanted, scope)?;
     let asked = asked_by(alloc, &*scope, directive, wanted)?;
-    let below = stmts_breach(alloc, body, heads, asked, scope)?;
+    let below = stmts_breach(alloc, body, functions, asked, scope)?;
     Ok(lesser(own, below))
 }
 
@@ -169,21 +170,21 @@ fn omp_breach<'p, H: HeadRules>(
 /// many loops. Afterwards the same is visible as before.
 #[tactic(auto, using(crate::proofs::Walks::lists))]
 #[cycle(stmt_breach)]
-pub fn stmts_breach<'p, H: HeadRules>(
+pub fn stmts_breach<'p>(
     alloc: Global,
     stmts: &'p [Stmt],
-    heads: &H,
+    functions: &'p Functions,
     wanted: u64,
     scope: &mut Scope<'p>,
 ) -> Result<Option<LoopBreach>, AllocError>
     requires { WellFormedStmts (bare_stmts stmts.now) }
-    ensures breach { IfOk result (λ b. b ≡ least (programs.stmts_breaches scope.old.defines (H.known heads.now) scope.old.state wanted (placed_stmts stmts.now))) }
+    ensures breach { IfOk result (λ b. b ≡ least (programs.stmts_breaches scope.old.defines functions.now scope.old.state wanted (placed_stmts stmts.now))) }
     ensures scope { OnOk result (scope.new ≡ scope.old) }
 {
     let round = scope.len();
     let mut found = None;
     'each: for stmt in stmts {
-        let here = stmt_breach(alloc, stmt, heads, wanted, scope)?;
+        let here = stmt_breach(alloc, stmt, functions, wanted, scope)?;
         declare(scope, stmt)?;
         found = lesser(found, here);
     }

@@ -8,9 +8,9 @@ use Rattle.restrictions.proofs.Tiers.{tier_first}
 use Rattle.restrictions.proofs.constructs.structure_breach.Goals as goal
 
 pub returns-in-Some-clause-breach : goal.returns-in-Some-clause-breach
-returns-in-Some-clause-breach g c =
+returns-in-Some-clause-breach c =
     let v = c.args.scope.now in
     let d = placed_directive c.args.directive.now in
     let a = placed_stmts c.args.body.now in
-    tier_first (structure.construct_breaches v.defines d a) (or_else (rules.construct_breaches v.defines (g.H.HeadRules.known c.args.heads.now) v.state d a) (counts.construct_breaches v.defines v.state d a))
+    tier_first (structure.construct_breaches v.defines d a) (or_else (rules.construct_breaches v.defines c.args.functions.now v.state d a) (counts.construct_breaches v.defines v.state d a))
     _ c.in-Some.breach c.in_ok-breach.ensures c.in-Some.is

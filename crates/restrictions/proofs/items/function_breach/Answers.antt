@@ -9,8 +9,8 @@ use Rattle.restrictions.proofs.Parameters.{only_params}
 use Rattle.restrictions.proofs.items.function_breach.Goals as goal
 
 pub returns-clause-breach : goal.returns-clause-breach
-returns-clause-breach g c =
-    let fs = g.H.HeadRules.known c.args.heads.now in
+returns-clause-breach c =
+    let fs = c.args.functions.now in
     let v = c.args.scope.now in
     let a = placed_stmts c.args.body.now in
     c.in_ok-found.ensures.breach

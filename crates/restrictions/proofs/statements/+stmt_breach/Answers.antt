@@ -14,16 +14,16 @@ use Rattle.restrictions.proofs.Walks.{list_step, at_both}
 use Rattle.restrictions.proofs.statements.+stmt_breach.Goals as goal
 
 pub loop_breach-returns-clause-breach : goal.loop_breach-returns-clause-breach
-loop_breach-returns-clause-breach g t c =
-    let fs = g.H.HeadRules.known c.args.heads.now in
+loop_breach-returns-clause-breach t c =
+    let fs = c.args.functions.now in
     let a = placed_stmts c.args.body.now in
     c.in_ok-below.ensures.breach
     ∙ (ap (λ v. least (stmts_breaches v.defines fs v.state c.saturating_sub.result a)) c.in_ok-enter_loop.ensures
     ∙ ap (λ n. least (stmts_breaches c.args.scope.now.defines fs (for_state c.args.scope.now.defines c.args.scope.now.state c.args.wanted (placed_head c.args.head.now)) n a)) c.saturating_sub.ensures)
 
 pub omp_breach-returns-clause-breach : goal.omp_breach-returns-clause-breach
-omp_breach-returns-clause-breach g t c =
-    let fs = g.H.HeadRules.known c.args.heads.now in
+omp_breach-returns-clause-breach t c =
+    let fs = c.args.functions.now in
     let v = c.args.scope.now in
     let d = c.args.directive.now in
     let a = placed_stmts c.args.body.now in
@@ -35,8 +35,8 @@ omp_breach-returns-clause-breach g t c =
     c.lesser.ensures ∙ (λ i. lesser (c.in_ok-own.ensures.breach i) (below i))
 
 pub stmt_breach-returns-in_ok-second-in-Some-clause-breach : goal.stmt_breach-returns-in_ok-second-in-Some-clause-breach
-stmt_breach-returns-in_ok-second-in-Some-clause-breach g t c =
-    let fs = g.H.HeadRules.known c.args.heads.now in
+stmt_breach-returns-in_ok-second-in-Some-clause-breach t c =
+    let fs = c.args.functions.now in
     let v = c.args.scope.now in
     let i = c.in-If in
     let first = c.in_ok-first-in-If.ensures.breach ∙ ap (λ xs. least (stmts_breaches v.defines fs v.state 0 (placed_stmts xs))) c.as_slice.ensures in
@@ -49,8 +49,8 @@ stmt_breach-returns-in_ok-second-in-Some-clause-breach g t c =
     ∙ sym (ap least (at_both v.defines fs v.state c.args.wanted c.args.stmt.now i.test i.yes c.in-Some.no i.no i.span i.is c.in-Some.is)))
 
 pub stmts_breach-each-preserved : goal.stmts_breach-each-preserved
-stmts_breach-each-preserved g t c =
-    let fs = g.H.HeadRules.known c.args.heads.now in
+stmts_breach-each-preserved t c =
+    let fs = c.args.functions.now in
     let v0 = c.args.scope.now in
     let v = c.each.scope in
     let v1 = c.stmt_breach.new.scope in

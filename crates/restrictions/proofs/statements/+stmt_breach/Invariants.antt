@@ -10,9 +10,9 @@ use Rattle.restrictions.proofs.statements.+stmt_breach.Given as goal
 -- The least of what was found and of what is left is the least of all. The variables that were visible at the start are
 -- the last ones.
 abbrev pub invariant-stmts_breach-each : goal.invariant-stmts_breach-each
-invariant-stmts_breach-each g l = record {
-  all : lesser l.found (least (stmts_breaches l.initial.scope.defines (g.H.HeadRules.known l.heads) l.scope.state l.wanted (placed_stmts (drop l.stmt-index l.stmts))))
-      ≡ least (stmts_breaches l.initial.scope.defines (g.H.HeadRules.known l.heads) l.initial.scope.state l.wanted (placed_stmts l.stmts));
+invariant-stmts_breach-each l = record {
+  all : lesser l.found (least (stmts_breaches l.initial.scope.defines l.functions l.scope.state l.wanted (placed_stmts (drop l.stmt-index l.stmts))))
+      ≡ least (stmts_breaches l.initial.scope.defines l.functions l.initial.scope.state l.wanted (placed_stmts l.stmts));
   defines : l.scope.defines ≡ l.initial.scope.defines;
   outside : with_frame (keep l.round l.scope.state.frame) l.scope.state ≡ l.initial.scope.state;
   deep : l.round ≤ length l.scope.state.frame;
