@@ -1,0 +1,4 @@
+//! Carried-out programs as checked ones. No code: each law stands on a function that does nothing.
+#![tactic(auto)]
+
+pub mod laws;
