@@ -1,5 +1,7 @@
 pub mod Assignments
 pub mod Calls
+pub mod FileVariables
+pub mod Frames
 pub mod Growth
 pub mod ChoiceParts
 pub mod EachKind
@@ -8,6 +10,7 @@ pub mod Items
 pub mod LineText
 pub mod Lists
 pub mod Nodes
+pub mod PlaceTables
 pub mod Places
 pub mod Products
 pub mod RunnableParts

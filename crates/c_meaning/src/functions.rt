@@ -10,9 +10,10 @@ ghost use Rattle.c_meaning.specs.Runnable.{RunnableTops};
 ghost use Rattle.c_meaning.specs.Scopes.{env_of};
 
 use crate::expressions::eval;
+use crate::frame::Frame;
 use crate::machine::Machine;
 use crate::scope::Scope;
-use crate::variable::{Cell, Variable};
+use crate::variable::Cell;
 use c_tree::arithmetic::{Trap, convert};
 use resolved_names::tree::{Expr, Item, Param, Stmt};
 use std::alloc::{AllocError, Global};
@@ -88,35 +89,35 @@ fn argument(
 
 /// A parameter's variable becomes the innermost of a frame.
 fn push_argument(
-    frame: &mut Vec<Variable>,
+    frame: &mut Frame,
     param: &Param,
     value: Option<i64>,
 ) -> Result<(), AllocError>
-    ensures { OnOk result (frame.new.items ≡ frame.old.items ++ record { name = number_name param.now.name; cell = scalar param.now.ty value } ∷ []) }
+    ensures { OnOk result (frame.new ≡ record { name = number_name param.now.name; cell = scalar param.now.ty value } ∷ frame.old) }
 {
     let cell = Cell::Scalar {
         ty: param.ty,
         value,
     };
-    frame.push(Variable::new(param.name, cell))?;
-    Ok(())
+    frame.push(param.name, cell)
 }
 
-/// The frame that holds the arguments, which are evaluated from left to right (C11 6.5.2.2). A parameter without an
-/// argument is unset.
+/// A frame with the arguments, which are evaluated from left to right (C11 6.5.2.2). A parameter without an argument is
+/// unset.
 #[tactic(auto, using(crate::proofs::Calls::calls))]
 pub fn arguments(
     scope: &Scope,
     m: &Machine,
+    mut frame: Frame,
     params: &[Param],
     args: &[Expr],
-) -> Result<Vec<Variable>, Stop>
+) -> Result<Frame, Stop>
+    requires empty { frame ≡ [] }
     requires known { RunnableTops (map numbered_top scope.now.items.now) }
     requires well_formed { HeldExprs (numbered_exprs args.now) }
-    ensures frame { IfOk result (λ vs. meaning.arguments (env_of scope.now).defines m.now (map numbered_param params.now) (numbered_exprs args.now) [] ≡ Ok (reverse vs.items)) }
+    ensures frame { IfOk result (λ vs. meaning.arguments (env_of scope.now).defines m.now (map numbered_param params.now) (numbered_exprs args.now) [] ≡ Ok vs) }
     ensures trap { IfErr result (λ e. Stops e (meaning.arguments (env_of scope.now).defines m.now (map numbered_param params.now) (numbered_exprs args.now) [])) }
 {
-    let mut frame = Vec::new(m.alloc());
     'each: for (index, param) in params.iter().enumerate() {
         let value = match argument(scope, m, param, args, index) {
             Ok(value) => value,

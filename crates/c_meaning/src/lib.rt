@@ -4,12 +4,15 @@
 
 pub mod directives;
 pub mod expressions;
+pub mod file_variables;
+pub mod frame;
 pub mod functions;
 pub mod globals;
 pub mod interpret;
 pub mod lines;
 pub mod loops;
 pub mod machine;
+pub mod place_table;
 pub mod run;
 pub mod scope;
 pub mod simple;

@@ -48,7 +48,7 @@ call-returns-in_err-end g t c =
     let f = function_of c.in-Some.function in
     let found = c.in-Some.ensures.found in
     let q = err_from_is_err_and c.from_residual.result c.from_residual.ensures.1 in
-    ran_fault c.from_residual.result c.in_err-end.field-0.0 q.0 q.1 q.2 (call_fails n p (number_name c.args.name) (numbered_exprs c.args.args.now) _ _ f found.means (reverse c.in-Ok.frame.items) (subst (λ (es : List Expr). meaning.arguments (env_of c.args.scope.now).defines c.args.m.now f.params (numbered_exprs es) [] ≡ Ok (reverse c.in-Ok.frame.items)) c.as_slice.ensures c.in-Ok.ensures.frame) c.swap_frame-caller.new.self _ _ c.swap_frame-caller.ensures.frame _ c.in_err-end.ensures)
+    ran_fault c.from_residual.result c.in_err-end.field-0.0 q.0 q.1 q.2 (call_fails n p (number_name c.args.name) (numbered_exprs c.args.args.now) _ _ f found.means c.empty_frame-empty.new.self c.empty_frame-empty.ensures.same c.in-Ok.frame (subst (λ (es : List Expr). meaning.arguments (env_of c.args.scope.now).defines c.empty_frame-empty.new.self f.params (numbered_exprs es) [] ≡ Ok c.in-Ok.frame) c.as_slice.ensures c.in-Ok.ensures.frame) c.swap_frame-caller.new.self _ _ c.swap_frame-caller.ensures.frame _ c.in_err-end.ensures)
 
 pub call-returns-in-Err : goal.call-returns-in-Err
 call-returns-in-Err g t c =
@@ -56,7 +56,7 @@ call-returns-in-Err g t c =
     let p = map numbered_top c.args.scope.now.items.now in
     let f = function_of c.in-Some.function in
     let found = c.in-Some.ensures.found in
-    ran_as c.stopped.result (stopped_as c.in-Err.stop) c.stopped.ensures (call_stops n p (number_name c.args.name) (numbered_exprs c.args.args.now) _ _ f found.means c.in-Err.stop (subst (λ (es : List Expr). Stops c.in-Err.stop (meaning.arguments (env_of c.args.scope.now).defines c.args.m.now f.params (numbered_exprs es) [])) c.as_slice.ensures c.in-Err.ensures.trap))
+    ran_as c.stopped.result (stopped_as c.in-Err.stop) c.stopped.ensures (call_stops n p (number_name c.args.name) (numbered_exprs c.args.args.now) _ _ f found.means c.empty_frame-empty.new.self c.empty_frame-empty.ensures.same c.in-Err.stop (subst (λ (es : List Expr). Stops c.in-Err.stop (meaning.arguments (env_of c.args.scope.now).defines c.empty_frame-empty.new.self f.params (numbered_exprs es) [])) c.as_slice.ensures c.in-Err.ensures.trap))
 
 pub call-returns : goal.call-returns
 call-returns g t c =
@@ -64,7 +64,7 @@ call-returns g t c =
     let p = map numbered_top c.args.scope.now.items.now in
     let f = function_of c.in-Some.function in
     let found = c.in-Some.ensures.found in
-    call_ends n p (number_name c.args.name) (numbered_exprs c.args.args.now) _ _ f found.means (reverse c.in-Ok.frame.items) (subst (λ (es : List Expr). meaning.arguments (env_of c.args.scope.now).defines c.args.m.now f.params (numbered_exprs es) [] ≡ Ok (reverse c.in-Ok.frame.items)) c.as_slice.ensures c.in-Ok.ensures.frame) c.swap_frame-caller.new.self c.run_stmts.new.m _ c.swap_frame-caller.ensures.frame _ (reverse c.swap_frame-caller.result.items) c.swap_frame.ensures.frame c.swap_frame-caller.ensures.was c.in_ok-end.end c.call_end.result c.call_end.ensures c.in_ok-end.ensures
+    call_ends n p (number_name c.args.name) (numbered_exprs c.args.args.now) _ _ f found.means c.empty_frame-empty.new.self c.empty_frame-empty.ensures.same c.in-Ok.frame (subst (λ (es : List Expr). meaning.arguments (env_of c.args.scope.now).defines c.empty_frame-empty.new.self f.params (numbered_exprs es) [] ≡ Ok c.in-Ok.frame) c.as_slice.ensures c.in-Ok.ensures.frame) c.swap_frame-caller.new.self c.run_stmts.new.m _ c.swap_frame-caller.ensures.frame _ c.swap_frame-caller.result (c.put_back.ensures ∙ c.swap_frame-ended.ensures.frame) c.swap_frame-caller.ensures.was c.in_ok-end.end c.call_end.result c.call_end.ensures c.in_ok-end.ensures
 
 -- ---- turns
 
