@@ -7,6 +7,7 @@ pub mod ChoiceParts
 pub mod EachKind
 pub mod InitialCells
 pub mod Items
+pub mod LastItems
 pub mod LineText
 pub mod Lists
 pub mod Nodes

@@ -5,6 +5,7 @@ pub mod Functions
 pub mod Globals
 pub mod Held
 pub mod Ends
+pub mod LastItems
 pub mod Loops
 pub mod Machines
 pub mod PlaceTables

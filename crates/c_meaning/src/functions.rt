@@ -34,14 +34,15 @@ pub enum Stop {
     Memory,
 }
 
-/// The last function of a name among the items. Its body knows what stands before it.
+/// The last function of a name among the items, which is sought where the table tells. Its body knows what stands before
+/// it.
 #[tactic(auto, using(crate::proofs::Calls::functions))]
 pub fn function_named<'p>(scope: &Scope<'p>, name: usize) -> Option<Known<'p>>
     requires { RunnableTops (map numbered_top scope.now.items.now) }
     ensures found { IfSome result (λ f. IsKnown scope.now (number_name name) f) }
     ensures none { IfNone result (meaning.function_named (number_name name) (env_of scope.now).functions ≡ None) }
 {
-    let mut left = scope.items.len();
+    let mut left = scope.last.up_to_function(name).min(scope.items.len());
     'each: while left > 0 {
         left -= 1;
         if let Item::Function {
@@ -59,6 +60,7 @@ pub fn function_named<'p>(scope: &Scope<'p>, name: usize) -> Option<Known<'p>>
                     scope: Scope {
                         bound: scope.bound,
                         items: &scope.items[..left],
+                        last: scope.last,
                     },
                 });
             }
@@ -88,11 +90,7 @@ fn argument(
 }
 
 /// A parameter's variable becomes the innermost of a frame.
-fn push_argument(
-    frame: &mut Frame,
-    param: &Param,
-    value: Option<i64>,
-) -> Result<(), AllocError>
+fn push_argument(frame: &mut Frame, param: &Param, value: Option<i64>) -> Result<(), AllocError>
     ensures { OnOk result (frame.new ≡ record { name = number_name param.now.name; cell = scalar param.now.ty value } ∷ frame.old) }
 {
     let cell = Cell::Scalar {

@@ -2,6 +2,7 @@
 //! is defined.
 #![tactic(auto)]
 
+pub mod defines;
 pub mod directives;
 pub mod expressions;
 pub mod file_variables;
@@ -9,6 +10,7 @@ pub mod frame;
 pub mod functions;
 pub mod globals;
 pub mod interpret;
+pub mod last_items;
 pub mod lines;
 pub mod loops;
 pub mod machine;

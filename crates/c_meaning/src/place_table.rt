@@ -1,6 +1,6 @@
 //! Where things with names stand.
 
-ghost use Rattle.std.specs.Prelude.{◌≡◌, ◌<◌, ℕ, None, OnOk, length, nat_eq, if◌then◌else◌};
+ghost use Rattle.std.specs.Prelude.{◌≡◌, ◌<◌, ℕ, None, Some, OnOk, length, nat_eq, if◌then◌else◌};
 ghost use Rattle.c_meaning.specs.PlaceTables.{place_at};
 
 use std::alloc::{AllocError, Global};
@@ -50,5 +50,14 @@ impl PlaceTable {
         ensures { (n : ℕ) → place_at self.new n ≡ (if nat_eq n number then place else place_at self.old n) }
     {
         self.places[number] = place;
+    }
+
+    /// Gives a number a place.
+    pub fn set(&mut self, number: usize, place: usize) -> Result<(), AllocError>
+        ensures { OnOk result ((n : ℕ) → place_at self.new n ≡ (if nat_eq n number then Some place else place_at self.old n)) }
+    {
+        self.make_room(number)?;
+        self.put(number, Some(place));
+        Ok(())
     }
 }
