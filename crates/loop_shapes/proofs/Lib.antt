@@ -1,3 +1,4 @@
+pub mod Answered
 pub mod FirstUnlike
 pub mod Listed
 pub mod Visibility

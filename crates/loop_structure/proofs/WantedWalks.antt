@@ -41,7 +41,7 @@ module _ (ds : List Define) where
   some_wanted m (p.empty s) = refl
   some_wanted m (p.call x at es s) = refl
 
-  are_wanted : (m : ℕ) (s : p.Stmt) → m ≢ 0 → least (stmt_breaches ds m s) ≡ wanted_least ds m s
+  pub are_wanted : (m : ℕ) (s : p.Stmt) → m ≢ 0 → least (stmt_breaches ds m s) ≡ wanted_least ds m s
   are_wanted zero s some = absurd (some refl)
   are_wanted (suc m) s some = some_wanted m s
 

@@ -48,7 +48,7 @@ fn or_else(first: Option<LoopBreach>, second: Option<LoopBreach>) -> Option<Loop
 /// one at least.
 #[tactic(auto, using(crate::proofs::WantedWalks::wanted))]
 #[cycle(stmt_breach)]
-fn stmt_breach<C: Constants>(
+pub fn stmt_breach<C: Constants>(
     alloc: Global,
     constants: &C,
     stmt: &Stmt,
