@@ -20,3 +20,5 @@ pub mod Tiles
 pub mod Transforms
 pub mod TripCounts
 pub mod WantedKinds
+pub mod TypedNames
+pub mod ValuedNames
