@@ -6,6 +6,7 @@ ghost use Rattle.c_tree.specs.BareOf.{bare_exprs, bare_directive, bare_kind, bar
 ghost use Rattle.c_tree.specs.PlacedOf.{placed_exprs, placed_directive, placed_kind, placed_clauses, placed_item, placed_items};
 ghost use Rattle.c_tree.specs.Forget.{forget_expr, forget_directive};
 ghost use Rattle.c_tree.specs.Constants.{EachLiteralIsHeld};
+ghost use Rattle.c_tree.specs.WellFormed.{WellFormedDirective};
 ghost use Rattle.c_semantics.specs.Loops.Directives as directives;
 ghost use Rattle.c_semantics.specs.Loops.Need as need;
 ghost use Rattle.canonical_nests.specs.Held.{ClauseIsHeld, ClausesAreHeld, DirectiveIsHeld, ItemIsHeld, ItemsAreHeld};
@@ -234,7 +235,7 @@ fn put_item<C: Constants>(
 
 /// What a directive asks of its body where each of its parts is wanted to have a depth of at least `wanted`: its need,
 /// or as many loops as it takes where no number serves.
-#[tactic(auto, using(crate::proofs::ForgottenPlans::forgotten_plans))]
+#[tactic(auto, using(crate::proofs::ForgottenPlans::forgotten_plans, crate::proofs::HeldTrees::directive_held))]
 pub fn loops_asked_by<C: Constants>(
     alloc: Global,
     constants: &C,
@@ -242,7 +243,7 @@ pub fn loops_asked_by<C: Constants>(
     wanted: u64,
 ) -> Result<u64, AllocError>
     requires held { C.are_held constants.now }
-    requires literals { DirectiveIsHeld (bare_directive directive.now) }
+    requires well_formed { WellFormedDirective (bare_directive directive.now) }
     ensures { IfOk result (λ n. n ≡ need.loops_asked (directives.plan_of (C.defines constants.now) (forget_directive (placed_directive directive.now))) wanted) }
 {
     let plan = plan_of(alloc, constants, directive)?;

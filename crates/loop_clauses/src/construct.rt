@@ -34,21 +34,6 @@ fn own_breach<C: Constants>(
     directive_breach(alloc, constants, directive)
 }
 
-/// What a well-formed directive asks of its body.
-#[tactic(auto, using(crate::proofs::TakenWalks::held))]
-fn asked_by<C: Constants>(
-    alloc: Global,
-    constants: &C,
-    directive: &Directive,
-    wanted: u64,
-) -> Result<u64, AllocError>
-    requires held { C.are_held constants.now }
-    requires well_formed { WellFormedDirective (bare_directive directive.now) }
-    ensures { IfOk result (λ n. n ≡ need.loops_asked (directives.plan_of (C.defines constants.now) (forget_directive (placed_directive directive.now))) wanted) }
-{
-    loops_asked_by(alloc, constants, directive, wanted)
-}
-
 /// The least breach of a clause rule by the directives that a directive takes, where it wants so many loops of a
 /// statement, one at least.
 #[cycle(stmt_breach)]
@@ -78,7 +63,7 @@ fn stmt_breach<C: Constants>(
             ..
         } => {
             let own = own_breach(alloc, constants, directive)?;
-            let asked = asked_by(alloc, constants, directive, wanted)?;
+            let asked = loops_asked_by(alloc, constants, directive, wanted)?;
             let below = stmts_breach(alloc, constants, body.as_slice(), asked)?;
             Ok(lesser(own, below))
         }
@@ -137,7 +122,7 @@ pub fn construct_breach<C: Constants>(
     ensures { IfOk result (λ b. b ≡ least (programs.clause_breaches (C.defines constants.now) (placed_directive directive.now) (placed_stmts body.now))) }
 {
     let own = own_breach(alloc, constants, directive)?;
-    let asked = asked_by(alloc, constants, directive, 0)?;
+    let asked = loops_asked_by(alloc, constants, directive, 0)?;
     let below = stmts_breach(alloc, constants, body, asked)?;
     Ok(lesser(own, below))
 }

@@ -3,7 +3,6 @@ use Rattle.std.proofs.Common.{◌≡◌, ◌∙◌, ap, refl, ℕ, suc, ◌-◌,
 use Rattle.c_tree.specs.Bare.{Name, Stmt, decl, set, step, print, input, if_, if_else, while_, do_, for_, block, break_, continue_, empty, omp, call, MaybeStmt, no_stmt, a_stmt}
 use Rattle.c_tree.proofs.Heads.{bare_head_out}
 use Rattle.c_tree.proofs.Forgotten.Directives.{bare_directive_is}
-use Rattle.canonical_nests.proofs.HeldTrees.{directive_held}
 use Rattle.c_semantics.specs.Meaning.State.{keep}
 use Rattle.c_semantics.specs.Meaning.FileVariables.{scope_after, scope_in}
 use Rattle.loop_heads.specs.Affected.{Extends}
@@ -51,4 +50,4 @@ pub ruleset scopes = (all_kept, last_left)
 
 pub ruleset heads = (bare_head_out)
 
-pub ruleset directives = (directive_held, bare_directive_is)
+pub ruleset directives = (bare_directive_is)

@@ -64,20 +64,6 @@ fn loop_breach(place: &Place, head: &ForHead, body: &[Stmt]) -> Option<LoopBreac
     lesser(read, lesser(assigned, called))
 }
 
-/// What a well-formed directive asks of its body.
-#[tactic(auto, using(canonical_nests::proofs::HeldTrees::directive_held))]
-fn asked_by(
-    alloc: Global,
-    scope: &Scope,
-    directive: &Directive,
-    wanted: u64,
-) -> Result<u64, AllocError>
-    requires { WellFormedDirective (bare_directive directive.now) }
-    ensures { IfOk result (λ n. n ≡ need.loops_asked (directives.plan_of scope.now.defines (forget_directive (placed_directive directive.now))) wanted) }
-{
-    loops_asked_by(alloc, scope, directive, wanted)
-}
-
 /// Makes the variable visible that the first part of a head declares.
 fn enter_part<'p>(scope: &mut Scope<'p>, part: &'p Option<Boxed<Stmt>>) -> Result<(), AllocError>
     ensures { OnOk result (scope.new ≡ record scope.old { state = skeleton.scope_in (maybe_stmt (option_map bare_stmt part.now)) scope.old.state }) }
@@ -201,7 +187,7 @@ fn stmt_breach<'a, 'p>(
             body,
             ..
         } => {
-            let asked = asked_by(at.alloc, scope, directive, wanted)?;
+            let asked = loops_asked_by(at.alloc, scope, directive, wanted)?;
             let below = stmts_breach(at, scope, round, body.as_slice(), asked)?;
             Ok(below)
         }
@@ -287,7 +273,7 @@ pub fn construct_breach<'p>(
     ensures breach { IfOk result (λ b. b ≡ least (rules.construct_breaches scope.old.defines functions.now scope.old.state (placed_directive directive.now) (placed_stmts body.now))) }
     ensures scope { OnOk result (scope.new ≡ scope.old) }
 {
-    let asked = asked_by(alloc, scope, directive, 0)?;
+    let asked = loops_asked_by(alloc, scope, directive, 0)?;
     let mut round = NameStack::new(alloc);
     let at = Within {
         alloc,

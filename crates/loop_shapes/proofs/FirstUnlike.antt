@@ -1,5 +1,6 @@
 -- The first affected loop that isn't canonical, in what a walk has left.
 use Rattle.std.proofs.Common.{◌≡◌, ◌∙◌, refl, sym, ap, ◌<◌, ◌≤◌, ◌+◌, ◌≢◌, ℕ, zero, suc, List, [], ◌∷◌, length, drop, slice_index_or, Option, Some, None}
+use Rattle.std.specs.Option.{option_or}
 use Rattle.c_tree.specs.BareOf.{bare_head}
 use Rattle.c_tree.specs.Placed as p
 use Rattle.c_tree.specs.PlacedOf.{placed_head, placed_stmt, placed_stmts}
@@ -12,7 +13,6 @@ use Rattle.c_semantics.specs.Meaning.Expressions.{Define}
 use Rattle.c_semantics.specs.Loops.CanonicalForm.{Canonical, canonical}
 use Rattle.canonical_nests.specs.Canonical.{seen_loop}
 use Rattle.canonical_nests.specs.declared.canonical.CanonLoop.{CanonLoop}
-use Rattle.canonical_nests.specs.LoopRules.Programs.{or_later}
 use Rattle.canonical_nests.proofs.HeldTrees.{good_more}
 use Rattle.loop_shapes.specs.Affected.{unless_canonical, first_in, first_among, first_unlike}
 
@@ -40,12 +40,12 @@ module _ (ds : List Define) where
   pub none_wanted : (m : ℕ) (xs : List Stmt) → m ≡ 0 → first_among ds m (placed_stmts xs) ≡ None
   none_wanted m xs is = ap (λ n. first_among ds n (placed_stmts xs)) is ∙ none_in xs
 
-  one_more : (m : ℕ) (a : p.Stmt) (as' : p.Stmts) → m ≢ 0 → first_among ds m (p.more_stmts a as') ≡ or_later (first_in ds m a) (first_among ds m as')
+  one_more : (m : ℕ) (a : p.Stmt) (as' : p.Stmts) → m ≢ 0 → first_among ds m (p.more_stmts a as') ≡ option_or (first_in ds m a) (first_among ds m as')
   one_more zero a as' some = absurd (some refl)
   one_more (suc m) a as' some = refl
 
   pub list_more : (m : ℕ) (xs : List Stmt) (i : ℕ) (x : Stmt) → m ≢ 0 → i < length xs → x ≡ slice_index_or xs i x
-      → first_among ds m (placed_stmts (drop i xs)) ≡ or_later (first_in ds m (placed_stmt x)) (first_among ds m (placed_stmts (drop (i + 1) xs)))
+      → first_among ds m (placed_stmts (drop i xs)) ≡ option_or (first_in ds m (placed_stmt x)) (first_among ds m (placed_stmts (drop (i + 1) xs)))
   list_more m xs i x some within is =
       rest_more (λ ys. first_among ds m (placed_stmts ys)) xs i x within is ∙ one_more m (placed_stmt x) (placed_stmts (drop (i + 1) xs)) some
 

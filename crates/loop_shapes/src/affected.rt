@@ -6,12 +6,11 @@ ghost use Rattle.c_tree.specs.PlacedOf.{placed_head, placed_stmt, placed_stmts};
 ghost use Rattle.c_tree.specs.Forget.{forget_head};
 ghost use Rattle.c_tree.specs.WellFormed.{WellFormedHead, WellFormedStmt, WellFormedStmts};
 ghost use Rattle.c_semantics.specs.Loops.CanonicalForm as form;
-ghost use Rattle.canonical_nests.specs.LoopRules.Programs.{or_later};
 ghost use Rattle.loop_shapes.specs.Affected as affected;
 ghost use Rattle.loop_shapes.specs.Affected.{unless_canonical};
 
-use crate::constructs::asked_by;
 use c_tree::tree::{ForHead, Stmt};
+use canonical_nests::directive_plan::loops_asked_by;
 use loop_counts::heads::canonical;
 use loop_counts::scope::Scope;
 use std::alloc::{AllocError, Global};
@@ -25,16 +24,6 @@ fn unless_canonical(scope: &Scope, head: &ForHead, place: u64) -> Option<u64>
     match canonical(scope, head) {
         None => Some(place),
         Some(_) => None,
-    }
-}
-
-/// The first place, if there is one, else the second.
-fn or_later(first: Option<u64>, second: Option<u64>) -> Option<u64>
-    ensures { result ≡ or_later first second }
-{
-    match first {
-        None => second,
-        Some(place) => Some(place),
     }
 }
 
@@ -55,7 +44,7 @@ fn first_in(
         Stmt::For { head, body, span } => {
             let below = first_among(alloc, body.as_slice(), scope, wanted - 1)?;
             let own = unless_canonical(scope, head, span.start);
-            Ok(or_later(own, below))
+            Ok(own.or(below))
         }
         Stmt::Block { body, .. } => {
             let below = first_among(alloc, body.as_slice(), scope, wanted)?;
@@ -66,23 +55,22 @@ fn first_in(
             body,
             ..
         } => {
-            let asked = asked_by(alloc, scope, directive, wanted)?;
+            let asked = loops_asked_by(alloc, scope, directive, wanted)?;
             let below = first_among(alloc, body.as_slice(), scope, asked)?;
             Ok(below)
         }
-        Stmt::Decl { .. } => Ok(None),
-        Stmt::Set { .. } => Ok(None),
-        Stmt::Step { .. } => Ok(None),
-        Stmt::Print { .. } => Ok(None),
-        Stmt::Input { .. } => Ok(None),
-        Stmt::If { no: None, .. } => Ok(None),
-        Stmt::If { no: Some(_), .. } => Ok(None),
-        Stmt::While { .. } => Ok(None),
-        Stmt::Do { .. } => Ok(None),
-        Stmt::Break { .. } => Ok(None),
-        Stmt::Continue { .. } => Ok(None),
-        Stmt::Empty { .. } => Ok(None),
-        Stmt::Call { .. } => Ok(None),
+        Stmt::Decl { .. }
+        | Stmt::Set { .. }
+        | Stmt::Step { .. }
+        | Stmt::Print { .. }
+        | Stmt::Input { .. }
+        | Stmt::If { .. }
+        | Stmt::While { .. }
+        | Stmt::Do { .. }
+        | Stmt::Break { .. }
+        | Stmt::Continue { .. }
+        | Stmt::Empty { .. }
+        | Stmt::Call { .. } => Ok(None),
     }
 }
 

@@ -17,20 +17,6 @@ use canonical_nests::nest::Construct;
 use loop_counts::scope::Scope;
 use std::alloc::{AllocError, Global};
 
-/// What a well-formed directive asks of its body.
-#[tactic(auto, using(canonical_nests::proofs::HeldTrees::directive_held))]
-pub fn asked_by(
-    alloc: Global,
-    scope: &Scope,
-    directive: &Directive,
-    wanted: u64,
-) -> Result<u64, AllocError>
-    requires { WellFormedDirective (bare_directive directive.now) }
-    ensures { IfOk result (λ n. n ≡ need.loops_asked (directives.plan_of scope.now.defines (forget_directive (placed_directive directive.now))) wanted) }
-{
-    loops_asked_by(alloc, scope, directive, wanted)
-}
-
 /// Lists a directive as a construct, unless a directive round it takes it.
 #[tactic(auto, using(crate::proofs::Listed::own))]
 fn list_own(
@@ -128,7 +114,7 @@ fn list_directive(
     ensures { OnOk result (found.new.items ≡ (found.old.items ++ own_constructs wanted (placed_directive directive.now)) ++ listed.stmts_constructs scope.now.defines (need.loops_asked (directives.plan_of scope.now.defines (forget_directive (placed_directive directive.now))) wanted) (placed_stmts body.now)) }
 {
     list_own(directive, wanted, found)?;
-    let asked = asked_by(alloc, scope, directive, wanted)?;
+    let asked = loops_asked_by(alloc, scope, directive, wanted)?;
     list_stmts(alloc, body, scope, asked, found)?;
     Ok(())
 }
@@ -192,8 +178,8 @@ fn program_constructs(alloc: Global, program: &Program) -> Result<Vec<Construct>
     Ok(found)
 }
 
-/// The constructs of a program in the order of the text, those in the bodies of others included: each one's number is its
-/// index.
+/// The constructs of a program in the order of the text, those in the bodies of others included. They are numbered from 1
+/// in this order.
 pub fn constructs(alloc: Global, admitted: &Admitted) -> Result<Vec<Construct>, AllocError>
     ensures { IfOk result (λ list. list.items ≡ listed.constructs (placed_program admitted.now)) }
 {

@@ -19,21 +19,6 @@ use canonical_nests::least::lesser;
 use canonical_nests::rules::LoopBreach;
 use std::alloc::{AllocError, Global};
 
-/// What a well-formed directive asks of its body.
-#[tactic(auto, using(crate::proofs::WantedWalks::held))]
-fn asked_by<C: Constants>(
-    alloc: Global,
-    constants: &C,
-    directive: &Directive,
-    wanted: u64,
-) -> Result<u64, AllocError>
-    requires held { C.are_held constants.now }
-    requires well_formed { WellFormedDirective (bare_directive directive.now) }
-    ensures { IfOk result (λ n. n ≡ need.loops_asked (directives.plan_of (C.defines constants.now) (forget_directive (placed_directive directive.now))) wanted) }
-{
-    loops_asked_by(alloc, constants, directive, wanted)
-}
-
 /// The first breach of those that there are, where the second counts only if the first is missing.
 fn or_else(first: Option<LoopBreach>, second: Option<LoopBreach>) -> Option<LoopBreach>
     ensures { result ≡ first_of first second }
@@ -73,7 +58,7 @@ fn stmt_breach<C: Constants>(
             body,
             ..
         } => {
-            let asked = asked_by(alloc, constants, directive, wanted)?;
+            let asked = loops_asked_by(alloc, constants, directive, wanted)?;
             let below = stmts_breach(alloc, constants, body.as_slice(), asked)?;
             let own = body_breach(alloc, constants, directive, body.as_slice())?;
             Ok(or_else(below, own))
@@ -131,7 +116,7 @@ pub fn construct_breach<C: Constants>(
     requires body { WellFormedStmts (bare_stmts body.now) }
     ensures { IfOk result (λ b. b ≡ least (structure.construct_breaches (C.defines constants.now) (placed_directive directive.now) (placed_stmts body.now))) }
 {
-    let asked = asked_by(alloc, constants, directive, 0)?;
+    let asked = loops_asked_by(alloc, constants, directive, 0)?;
     let below = stmts_breach(alloc, constants, body, asked)?;
     let own = body_breach(alloc, constants, directive, body)?;
     Ok(or_else(below, own))

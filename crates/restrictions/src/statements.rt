@@ -23,20 +23,6 @@ use loop_counts::shapes::declare;
 use loop_heads::functions::Functions;
 use std::alloc::{AllocError, Global};
 
-/// What a well-formed directive asks of its body.
-#[tactic(auto, using(canonical_nests::proofs::HeldTrees::directive_held))]
-fn asked_by(
-    alloc: Global,
-    scope: &Scope,
-    directive: &Directive,
-    wanted: u64,
-) -> Result<u64, AllocError>
-    requires { WellFormedDirective (bare_directive directive.now) }
-    ensures { IfOk result (λ n. n ≡ need.loops_asked (directives.plan_of scope.now.defines (forget_directive (placed_directive directive.now))) wanted) }
-{
-    loops_asked_by(alloc, scope, directive, wanted)
-}
-
 /// The least breach of a construct, unless a directive round it takes it.
 #[tactic(auto, using(crate::proofs::Walks::own))]
 fn own_breach<'p>(
@@ -161,7 +147,7 @@ fn omp_breach<'p>(
     ensures scope { OnOk result (scope.new ≡ scope.old) }
 {
     let own = own_breach(alloc, functions, body, directive, wanted, scope)?;
-    let asked = asked_by(alloc, &*scope, directive, wanted)?;
+    let asked = loops_asked_by(alloc, &*scope, directive, wanted)?;
     let below = stmts_breach(alloc, body, functions, asked, scope)?;
     Ok(lesser(own, below))
 }

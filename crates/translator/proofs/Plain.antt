@@ -1,13 +1,14 @@
 -- A program without a first directive holds none, where it is well formed; and one that holds none has no first one.
 use Rattle.std.proofs.Common.{◌≡◌, ℕ, Bool, true, false, ◌&&◌, [], ◌∷◌, Option, Some, None, refl}
+use Rattle.std.specs.Option.{option_or}
 use Rattle.c_tree.specs.Bare as b
 use Rattle.c_tree.specs.Placed.{Stmt, decl, set, step, print, input, if_, if_else, while_, do_, for_, block, break_, continue_, empty, omp, call, Stmts, no_stmts, more_stmts, head, directive, Top, define, extern_, global, function, main, Program}
 use Rattle.c_tree.specs.Forget.{forget_stmt, forget_stmts, forget_maybe, forget_head, forget_top, forget_program}
 use Rattle.c_tree.specs.WellFormed.{MayBegin, MayEnd, WellFormedStmt, WellFormedStmts, WellFormedTop, WellFormedTops}
-use Rattle.canonical_nests.specs.LoopRules.Programs.{or_later, stmt_directive, stmts_directive, top_directive, first_directive}
+use Rattle.canonical_nests.specs.LoopRules.Programs.{stmt_directive, stmts_directive, top_directive, first_directive}
 use Rattle.c_meaning.specs.Plain.{is_plain_stmt, are_plain_stmts, is_plain_part, is_plain_head, is_plain_top, is_plain}
 
-both_none : (p q : Option ℕ) → or_later p q ≡ None → (p ≡ None) × (q ≡ None)
+both_none : (p q : Option ℕ) → option_or p q ≡ None → (p ≡ None) × (q ≡ None)
 both_none None q none = (refl, none)
 both_none (Some p) q none = cc
 
@@ -71,7 +72,7 @@ each : (a b : Bool) → (a && b) ≡ true → (a ≡ true) × (b ≡ true)
 each true b h = (refl, h)
 each false b h = cc
 
-neither : (p q : Option ℕ) → p ≡ None → q ≡ None → or_later p q ≡ None
+neither : (p q : Option ℕ) → p ≡ None → q ≡ None → option_or p q ≡ None
 neither p q a b = rw (a, b) refl
 
 mutual

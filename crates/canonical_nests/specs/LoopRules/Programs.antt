@@ -2,6 +2,7 @@
 -- a construct are those of the first tier that it breaks, and a construct that stands in the body of another is tested
 -- by itself. L26 and L27, which are this profile's own, come after all others.
 use Rattle.std.specs.Prelude.{ℕ, zero, suc, List, [], ◌∷◌, map, Option, Some, None, nat_lt}
+use Rattle.std.specs.Option.{option_or}
 use Rattle.c_tree.specs.Placed.{Stmt, if_, if_else, while_, do_, for_, block, omp, Stmts, no_stmts, more_stmts, Directive, directive, Top, function, main, Program}
 use Rattle.c_tree.specs.Forget.{forget_stmt, forget_directive, forget_head, forget_top, forget_param, forget_program}
 use Rattle.c_tree.specs.Checked.{most_height}
@@ -93,14 +94,10 @@ nest_breaches = breaches_from [] [] nowhere
 
 -- ---- L26 and L27
 
-abbrev pub or_later : Option ℕ → Option ℕ → Option ℕ
-or_later None o = o
-or_later (Some at) o = Some at
-
 abbrev mutual
   pub stmt_directive : Stmt → Option ℕ
   stmt_directive (if_ e a s) = stmts_directive a
-  stmt_directive (if_else e a b s) = or_later (stmts_directive a) (stmts_directive b)
+  stmt_directive (if_else e a b s) = option_or (stmts_directive a) (stmts_directive b)
   stmt_directive (while_ e a s) = stmts_directive a
   stmt_directive (do_ a e s) = stmts_directive a
   stmt_directive (for_ h a s) = stmts_directive a
@@ -110,7 +107,7 @@ abbrev mutual
 
   pub stmts_directive : Stmts → Option ℕ
   stmts_directive no_stmts = None
-  stmts_directive (more_stmts a as') = or_later (stmt_directive a) (stmts_directive as')
+  stmts_directive (more_stmts a as') = option_or (stmt_directive a) (stmts_directive as')
 
 abbrev pub top_directive : Top → Option ℕ
 top_directive (function x at ps a s) = stmts_directive a
@@ -120,7 +117,7 @@ top_directive _ = None
 -- the place of a program's first directive, where it has one
 abbrev pub first_directive : Program → Option ℕ
 first_directive [] = None
-first_directive (top ∷ tops) = or_later (top_directive top) (first_directive tops)
+first_directive (top ∷ tops) = option_or (top_directive top) (first_directive tops)
 
 -- L26: the tall height is above 256
 abbrev pub height_breaches : Option ℕ → Program → BreachSet
