@@ -21,4 +21,5 @@ pub mod Statements
 pub mod Bounds
 pub mod Found
 pub mod Orders
+pub mod Arguments
 pub mod Corollaries
