@@ -1,5 +1,5 @@
 -- The places of a frame's variables: where a name is found, and what a table says after each change.
-use Rattle.std.proofs.Common.{◌≡◌, ◌∙◌, sym, ap, refl, subst, ℕ, zero, suc, ◌+◌, ◌-◌, ◌<◌, ◌≤◌, Bool, true, false, List, [], ◌∷◌, ◌++◌, length, take, drop, reverse, set, arith, nat_eq}
+use Rattle.std.proofs.Common.{◌≡◌, ◌∙◌, sym, ap, refl, subst, ℕ, zero, suc, ◌+◌, ◌-◌, ◌<◌, ◌≤◌, Bool, true, false, List, [], ◌∷◌, ◌++◌, length, drop, reverse, set, arith, nat_eq}
 use Rattle.std.proofs.lemmas.List.{reverse-append, length-reverse, length-set, length-drop, drop-drop, drop_all}
 use Rattle.std.specs.Prelude.{bytes_eq, if◌then◌else◌, slice_index_or, Option, Some, None, ℤ}
 use Rattle.c_tree.specs.Bare.{Name}

@@ -3,7 +3,7 @@ use Rattle.std.proofs.Common.{◌≡◌, ◌∙◌, sym, ap, refl, subst, ℕ, z
 use Rattle.std.proofs.lemmas.List.{get_or_default, get_or-take, length-take}
 use Rattle.std.proofs.lemmas.Bool.{ltb-true}
 use Rattle.std.proofs.lemmas.Bool.Decides.{nat_tests}
-use Rattle.std.specs.Prelude.{slice_index_or, bytes_eq, if◌then◌else◌, unwrap_or, Option, Some, None}
+use Rattle.std.specs.Prelude.{slice_index_or, bytes_eq, if◌then◌else◌, unwrap_or, Option, Some}
 use Rattle.resolved_names.specs.Numbered.{number_name, numbered_top, numbered_param, numbered_stmts}
 use Rattle.c_tree.specs.declared.constant.TypedValue.{TypedValue}
 use Rattle.c_tree.specs.Constants.{defined_as}

@@ -1,5 +1,5 @@
 -- The place of a name in a list of variables: what the name means, and what a write of it changes.
-use Rattle.std.proofs.Common.{◌≡◌, ◌∙◌, sym, ap, refl, subst, ℕ, zero, suc, ◌+◌, ◌-◌, ◌<◌, ◌≤◌, Bool, true, false, List, [], ◌∷◌, ◌++◌, length, reverse, set, arith}
+use Rattle.std.proofs.Common.{◌≡◌, ◌∙◌, sym, ap, refl, ℕ, zero, suc, ◌+◌, ◌-◌, ◌<◌, ◌≤◌, Bool, true, false, List, [], ◌∷◌, ◌++◌, length, reverse, set, arith}
 use Rattle.std.proofs.lemmas.List.{reverse-append, length-reverse, get_or-reverse, set-append_left, set-append_right}
 use Rattle.std.specs.Prelude.{bytes_eq, if◌then◌else◌, slice_index_or, is_some, Option, Some, None, ℤ}
 use Rattle.c_tree.specs.Bare.{Name}

@@ -1,5 +1,5 @@
 -- Each statement runs as its meaning does, by the runs of its parts.
-use Rattle.std.proofs.Common.{◌≡◌, ◌<◌, ◌∙◌, sym, ap, refl, subst, map, List, [], reverse, Option, Ok, Err, true, arith}
+use Rattle.std.proofs.Common.{◌≡◌, ◌<◌, ◌∙◌, sym, ap, refl, subst, map, List, [], Option, Ok, Err, true, arith}
 use Rattle.std.proofs.lemmas.Result.{err_from_is_err_and}
 use Rattle.std.specs.Option.{option_copied, option_map}
 use Rattle.c_tree.specs.Bare as b

@@ -1,8 +1,7 @@
 -- The table reaches as far as the number of the variable that goes.
-use Rattle.std.proofs.Common.{◌≡◌, ◌∙◌, ap, List, [], ◌∷◌, ◌++◌, reverse, Option, ℕ}
+use Rattle.std.proofs.Common.{◌∙◌, ap, ◌++◌, reverse, Option, ℕ}
 use Rattle.std.specs.Option.{option_to_list}
 use Rattle.c_semantics.specs.Meaning.State.{Var}
-use Rattle.c_meaning.specs.Frames.{IsFrame}
 use Rattle.c_meaning.proofs.Frames.{frame_room, frame_last}
 use Rattle.c_meaning.proofs.frame.Frame.drop_innermost.Goals as goal
 

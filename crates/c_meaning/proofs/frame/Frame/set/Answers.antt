@@ -1,5 +1,5 @@
 -- The name's variable has the number now, and stands where it stood.
-use Rattle.std.proofs.Common.{◌≡◌, ◌∙◌, sym, ap, subst, ℕ, ◌<◌, List, length, reverse, set, Some, None, ℤ, w64, arith}
+use Rattle.std.proofs.Common.{◌≡◌, ◌∙◌, sym, ap, ◌<◌, List, length, reverse, set, Some, None, ℤ, w64, arith}
 use Rattle.std.proofs.lemmas.Int.{to_z-of_z}
 use Rattle.std.specs.Prelude.{is_some}
 use Rattle.c_semantics.specs.Meaning.State.{Var, find, write}

@@ -1,5 +1,4 @@
 -- One item more: it is the last of its name, or names nothing.
-use Rattle.std.proofs.Common.{◌≡◌, sym}
 use Rattle.std.proofs.lemmas.Result.{on_ok_weaker}
 use Rattle.c_meaning.proofs.LastItems.{define_noted, function_noted, other_noted}
 use Rattle.c_meaning.proofs.last_items.LastItems.note.Goals as goal
