@@ -2,7 +2,7 @@ use Rattle.std.proofs.Common.{◌≡◌, ◌≤◌, length, map, take}
 use Rattle.resolved_names.specs.Numbered.{numbered_top, number_name}
 use Rattle.c_semantics.specs.Meaning.Programs.{env_after, no_env}
 use Rattle.c_meaning.specs.Scopes.{env_of, constant_in}
-use Rattle.c_meaning.proofs.scope.define_named.Given as goal
+use Rattle.c_meaning.proofs.defines.define_named.Given as goal
 
 -- What is left has the define.
 abbrev pub invariant-each : goal.invariant-each

@@ -1,10 +1,25 @@
--- The last item that is left is the define, or the others have it.
-use Rattle.std.proofs.Common.{◌≡◌, ◌∙◌, sym, ap, Some, true, false, rules, arith}
-use Rattle.std.specs.Prelude.{bytes_eq}
-use Rattle.resolved_names.specs.Numbered.{number_name}
+-- Behind the place where the search begins no define has the name. The last item that is left is the define, or the others
+-- have it.
+use Rattle.std.proofs.Common.{◌≡◌, ◌∙◌, sym, ap, ℕ, min, Some, true, false, length, map, take, rules, arith}
+use Rattle.std.specs.Prelude.{bytes_eq, unwrap_or}
+use Rattle.resolved_names.specs.Numbered.{number_name, numbered_top}
+use Rattle.c_semantics.specs.Meaning.Programs.{env_after, no_env}
+use Rattle.c_meaning.specs.PlaceTables.{place_at}
+use Rattle.c_meaning.specs.Scopes.{constant_in}
+use Rattle.c_meaning.proofs.LastItems.{defines_before}
 use Rattle.c_meaning.proofs.Numbers.{number_eq}
 use Rattle.c_meaning.proofs.Scopes.{define_found, define_passed, define_other}
-use Rattle.c_meaning.proofs.scope.define_named.Goals as goal
+use Rattle.c_meaning.proofs.defines.define_named.Goals as goal
+
+pub each-init : goal.each-init
+each-init c =
+    let s = c.args.scope.now in
+    let xs = s.items.now in
+    let is : c.min-left.result ≡ min (unwrap_or (place_at s.last.now.defines c.args.name) 0) (length xs) = c.min-left.ensures ∙ ap (λ (k : ℕ). min k (length xs)) c.up_to_define.ensures in
+    record {
+      within = omega arith;
+      among = ap (λ (k : ℕ). constant_in (env_after s.bound no_env (map numbered_top (take k xs))).defines (number_name c.args.name)) is ∙ defines_before s.last.now xs s.stand_before s.bound c.args.name;
+    }
 
 pub returns-then-name-defined : goal.returns-then-name-defined
 returns-then-name-defined c =
