@@ -22,4 +22,7 @@ pub mod Bounds
 pub mod Found
 pub mod Orders
 pub mod Arguments
+pub mod Deeper
+pub mod Structured
+pub mod Asked
 pub mod Corollaries
