@@ -1,14 +1,15 @@
 -- The loops that a directive asks for suffice: over as many it gives parts as deep as those that are wanted.
-use Rattle.std.proofs.Common.{◌≡◌, refl, sym, ap, ◌∙◌, subst, ℕ, suc, ◌≤◌, List, [], ◌∷◌, length, Option, Some, None, true, false}
+use Rattle.std.proofs.Common.{◌≡◌, refl, sym, ap, ◌∙◌, subst, ℕ, suc, ◌-◌, ◌≤◌, List, [], ◌∷◌, length, Option, Some, None, true, false, arith}
 use Rattle.std.specs.Prelude.{nat_le, unwrap_or}
 use Rattle.std.proofs.lemmas.Bool.{leb-true, and_parts}
 use Rattle.c_semantics.specs.Laws.LeastNeed.{IsTried, IsNeed}
 use Rattle.c_semantics.specs.Loops.Transformations.{Transformation, tile, interchange, reverse_, split, fuse, unroll_full, unroll_partial, Plan, plan, Applied}
 use Rattle.c_semantics.specs.Loops.Need.{takes, transformed_depths, all_at_least, depths, applied_depths, each_at_least, serves, need, loops_asked}
 use Rattle.c_semantics.proofs.LeastNeed.{least_need}
+use Rattle.canonical_nests.specs.LoopRules.PlacedPlans.{forget_plan}
 use Rattle.nest_counts.specs.Found.{IsNoFuse, EachAtMost}
-use Rattle.nest_counts.specs.Laws.{AskedLoopsSuffice}
-use Rattle.nest_counts.proofs.Found.{enough_loops}
+use Rattle.nest_counts.specs.Laws.{AskedLoopsSuffice, DirectivesFindAsked}
+use Rattle.nest_counts.proofs.Found.{enough_loops, rules_find_loops}
 use Rattle.nest_counts.proofs.Deeper.{all_least, depths_deeper}
 
 each_length : (ks ls : List ℕ) → EachAtMost ks ls → length ks ≡ length ls
@@ -60,3 +61,9 @@ asked_loops_suffice (plan c w) m k l es other e deep =
         let d' = depths_deeper (plan c w) (n ∷ []) (k ∷ []) f.0 (le, tt) f.1.0 in
         let same : d'.0 ≡ es = let g : Some d'.0 ≡ Some es = sym d'.1.0 ∙ e in cc in
         (d.0, (d.1.0, (sym (each_length f.0 d.0 d.1.1) ∙ (each_length f.0 d'.0 d'.1.1 ∙ ap length same), all_least m f.0 d.0 d.1.1 f.1.1)))
+
+pub directives_find_asked : DirectivesFindAsked
+directives_find_asked p m k es ks other fit e deep le none =
+    let s = (asked_loops_suffice (forget_plan p) m k (length ks) es other e deep).1 le in
+    let same : length ks - 0 ≡ length ks = omega arith in
+    rules_find_loops p (ks ∷ []) s.0 fit (omega arith) (ap (λ n. depths (forget_plan p) (n ∷ [])) same ∙ s.1.0) none

@@ -82,6 +82,13 @@ AskedLoopsSuffice =
     (loops_asked p m ≤ k)
     × (loops_asked p m ≤ l → (fs : List ℕ) × ((depths p (l ∷ []) ≡ Some fs) × ((length fs ≡ length es) × (all_at_least m fs ≡ true))))
 
+-- so it and its items find what they take in a part that has the loops that it asks for, and in which they break no rule
+-- of counts
+abbrev pub DirectivesFindAsked : Type 0
+DirectivesFindAsked =
+    (p : PlacedPlan) (m k : ℕ) (es : List ℕ) (ks : Part) → IsNoFuse (forget_plan p) → ArgumentsFit (forget_plan p) → depths (forget_plan p) (k ∷ []) ≡ Some es →
+    all_at_least m es ≡ true → loops_asked (forget_plan p) m ≤ length ks → HasNone (counts.plan_breaches p 0 (ks ∷ [])) → Finds (forget_plan p) 0 (ks ∷ [])
+
 -- where a directive and its items break no rule of clauses, their arguments fit
 abbrev pub ArgumentsOfRulesFit : Type 0
 ArgumentsOfRulesFit = (ds : List Define) (d : placed.Directive) → HasNone (clauses.directive_breaches ds d) → ArgumentsFit (plan_of ds (forget_directive d))

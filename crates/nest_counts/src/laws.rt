@@ -1,6 +1,6 @@
 //! What the kinds of counts say of the trees of a construct.
 
-ghost use Rattle.nest_counts.specs.Laws.{ArgumentsOfRulesFit, AskedLoopsSuffice, BoundsAreInvariant, ConstructsHaveKinds, DeeperBodiesServe, DirectivesKeepKinds, KnownCountsHold, PermutationsAreOrders, RulesFindLoops, StructureFindsLoops, TakenLoopsAreRectangular};
+ghost use Rattle.nest_counts.specs.Laws.{ArgumentsOfRulesFit, AskedLoopsSuffice, BoundsAreInvariant, ConstructsHaveKinds, DeeperBodiesServe, DirectivesFindAsked, DirectivesKeepKinds, KnownCountsHold, PermutationsAreOrders, RulesFindLoops, StructureFindsLoops, TakenLoopsAreRectangular};
 
 /// Where the count of a loop is known, every tree at its depth is a loop of that many turns.
 pub fn known_counts_hold()
@@ -61,4 +61,10 @@ pub fn deeper_bodies_serve()
 /// over any part that has as many it gives as many parts, each as deep as is wanted.
 pub fn asked_loops_suffice()
     ensures { AskedLoopsSuffice }
+{}
+
+/// So a directive other than `fuse` and its items find the loops that they take in a part that has the loops that it asks
+/// for, where they break no rule of counts there.
+pub fn directives_find_asked()
+    ensures { DirectivesFindAsked }
 {}
