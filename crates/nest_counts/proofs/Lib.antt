@@ -25,4 +25,5 @@ pub mod Arguments
 pub mod Deeper
 pub mod Structured
 pub mod Asked
+pub mod LoopDepths
 pub mod Corollaries

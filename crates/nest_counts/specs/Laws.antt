@@ -1,13 +1,14 @@
 -- What the kinds of counts of a part say of the trees that have them.
-use Rattle.std.specs.Prelude.{ℕ, ◌≡◌, ◌+◌, ◌<◌, ◌≤◌, List, [], ◌∷◌, length, Ok, Some, true, false, get_or}
+use Rattle.std.specs.Prelude.{ℕ, suc, ◌≡◌, ◌+◌, ◌<◌, ◌≤◌, List, [], ◌∷◌, length, Ok, Some, true, false, get_or}
 use Rattle.c_tree.specs.Bare.{Directive, Stmts}
 use Rattle.c_tree.specs.Placed as placed
-use Rattle.c_tree.specs.Forget.{forget_directive}
+use Rattle.c_tree.specs.Forget.{forget_stmt, forget_directive}
 use Rattle.c_semantics.specs.Meaning.State.{State}
 use Rattle.c_semantics.specs.Meaning.Expressions.{Define}
 use Rattle.c_semantics.specs.Meaning.FileVariables.{FunctionAccess}
 use Rattle.c_semantics.specs.Loops.Directives.{plan_of}
 use Rattle.c_semantics.specs.Loops.Need.{depths, all_at_least, loops_asked}
+use Rattle.c_semantics.specs.Loops.StatementDepths.{stmt_depths}
 use Rattle.c_semantics.specs.Loops.Forest.{forest}
 use Rattle.c_semantics.specs.Loops.IterationTrees.{Tree, widths, pick, build}
 use Rattle.c_semantics.specs.Loops.Transformations.{Plan, apply_plan}
@@ -88,6 +89,12 @@ abbrev pub DirectivesFindAsked : Type 0
 DirectivesFindAsked =
     (p : PlacedPlan) (m k : ℕ) (es : List ℕ) (ks : Part) → IsNoFuse (forget_plan p) → ArgumentsFit (forget_plan p) → depths (forget_plan p) (k ∷ []) ≡ Some es →
     all_at_least m es ≡ true → loops_asked (forget_plan p) m ≤ length ks → HasNone (counts.plan_breaches p 0 (ks ∷ [])) → Finds (forget_plan p) 0 (ks ∷ [])
+
+-- a `for` or a directive gives loops where no directive that has to give loops breaks a rule of structure
+abbrev pub LoopsGiveDepths : Type 0
+LoopsGiveDepths =
+    (ds : List Define) (m : ℕ) (a : placed.Stmt) → structure.is_loop a ≡ true → HasNone (structure.stmt_breaches ds (suc m) a) →
+    (es : List ℕ) × (stmt_depths ds (forget_stmt a) ≡ Some es)
 
 -- where a directive and its items break no rule of clauses, their arguments fit
 abbrev pub ArgumentsOfRulesFit : Type 0

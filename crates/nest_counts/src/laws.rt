@@ -1,6 +1,6 @@
 //! What the kinds of counts say of the trees of a construct.
 
-ghost use Rattle.nest_counts.specs.Laws.{ArgumentsOfRulesFit, AskedLoopsSuffice, BoundsAreInvariant, ConstructsHaveKinds, DeeperBodiesServe, DirectivesFindAsked, DirectivesKeepKinds, KnownCountsHold, PermutationsAreOrders, RulesFindLoops, StructureFindsLoops, TakenLoopsAreRectangular};
+ghost use Rattle.nest_counts.specs.Laws.{ArgumentsOfRulesFit, AskedLoopsSuffice, BoundsAreInvariant, ConstructsHaveKinds, DeeperBodiesServe, DirectivesFindAsked, DirectivesKeepKinds, KnownCountsHold, LoopsGiveDepths, PermutationsAreOrders, RulesFindLoops, StructureFindsLoops, TakenLoopsAreRectangular};
 
 /// Where the count of a loop is known, every tree at its depth is a loop of that many turns.
 pub fn known_counts_hold()
@@ -67,4 +67,9 @@ pub fn asked_loops_suffice()
 /// for, where they break no rule of counts there.
 pub fn directives_find_asked()
     ensures { DirectivesFindAsked }
+{}
+
+/// A `for` or a directive gives loops where no directive that has to give loops breaks a rule of structure.
+pub fn loops_give_depths()
+    ensures { LoopsGiveDepths }
 {}
