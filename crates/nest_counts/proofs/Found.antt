@@ -161,7 +161,7 @@ transformed_reaches (unroll_partial s) k ps f r =
 
 -- ---- items
 
-some_then : (o : Option (List ℕ)) (f : List ℕ → Option (List ℕ)) (es : List ℕ) → if_some o f ≡ Some es → (ds : List ℕ) × ((o ≡ Some ds) × (f ds ≡ Some es))
+pub some_then : (o : Option (List ℕ)) (f : List ℕ → Option (List ℕ)) (es : List ℕ) → if_some o f ≡ Some es → (ds : List ℕ) × ((o ≡ Some ds) × (f ds ≡ Some es))
 some_then None f es e = absurd (cc)
 some_then (Some ds) f es e = (ds, (refl, e))
 
@@ -316,7 +316,7 @@ items_may : (d : PlacedPlan) (k : ℕ) → IsNoFuse (forget_plan d) → MayStand
 items_may (plan c at w) k n = item_may c at k w n
 
 -- a directive that finds enough loops
-enough_loops : (c : Transformation) (ds : List ℕ) (o : Option (List ℕ)) (es : List ℕ) → (if all_at_least (takes c) ds then o else None) ≡ Some es → (all_at_least (takes c) ds ≡ true) × (o ≡ Some es)
+pub enough_loops : (c : Transformation) (ds : List ℕ) (o : Option (List ℕ)) (es : List ℕ) → (if all_at_least (takes c) ds then o else None) ≡ Some es → (all_at_least (takes c) ds ≡ true) × (o ≡ Some es)
 enough_loops c ds o es e = by (all_at_least (takes c) ds) refl e
   where
     by : (b : Bool) → all_at_least (takes c) ds ≡ b → (if b then o else None) ≡ Some es → (all_at_least (takes c) ds ≡ true) × (o ≡ Some es)
@@ -324,7 +324,7 @@ enough_loops c ds o es e = by (all_at_least (takes c) ds) refl e
     by false d e = absurd (cc)
 
 mutual
-  plan_found : (p : PlacedPlan) (k : ℕ) (ps : List Part) (es : List ℕ) → ArgumentsFit (forget_plan p) → 0 < length ps → MayStandAt p k → AllReach k ps → depths (forget_plan p) (lengths_below k ps) ≡ Some es
+  pub plan_found : (p : PlacedPlan) (k : ℕ) (ps : List Part) (es : List ℕ) → ArgumentsFit (forget_plan p) → 0 < length ps → MayStandAt p k → AllReach k ps → depths (forget_plan p) (lengths_below k ps) ≡ Some es
       → HasNone (counts.plan_breaches p k ps) → Finds (forget_plan p) k ps × Reaches k es (plan_kinds (forget_plan p) k ps)
   plan_found (plan c at w) k ps es fit some may r e none =
       let q = enough_loops c (lengths_below k ps) (applied_depths c (forget_items w) (transformed_depths c (lengths_below k ps))) es e in

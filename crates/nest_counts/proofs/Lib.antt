@@ -22,4 +22,8 @@ pub mod Bounds
 pub mod Found
 pub mod Orders
 pub mod Arguments
+pub mod Deeper
+pub mod Structured
+pub mod Asked
+pub mod LoopDepths
 pub mod Corollaries
