@@ -1,3 +1,4 @@
+pub mod Tests
 pub mod Ways
 pub mod Built
 pub mod Sizes
@@ -20,4 +21,5 @@ pub mod Statements
 pub mod Bounds
 pub mod Found
 pub mod Orders
+pub mod Arguments
 pub mod Corollaries

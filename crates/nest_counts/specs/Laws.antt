@@ -2,6 +2,7 @@
 use Rattle.std.specs.Prelude.{ℕ, ◌≡◌, ◌+◌, ◌<◌, ◌≤◌, List, length, Ok, Some, true, false, get_or}
 use Rattle.c_tree.specs.Bare.{Directive, Stmts}
 use Rattle.c_tree.specs.Placed as placed
+use Rattle.c_tree.specs.Forget.{forget_directive}
 use Rattle.c_semantics.specs.Meaning.State.{State}
 use Rattle.c_semantics.specs.Meaning.Expressions.{Define}
 use Rattle.c_semantics.specs.Meaning.FileVariables.{FunctionAccess}
@@ -17,6 +18,7 @@ use Rattle.nest_counts.specs.HasKinds.{HasKinds, IsLoop, turns, EachBelow}
 use Rattle.canonical_nests.specs.Shapes.{body_kinds}
 use Rattle.canonical_nests.specs.LoopRules.BreachSets.{HasNone}
 use Rattle.canonical_nests.specs.LoopRules.PlacedPlans.{PlacedPlan, forget_plan}
+use Rattle.canonical_nests.specs.LoopRules.Clauses as clauses
 use Rattle.canonical_nests.specs.LoopRules.Clauses.{all_different}
 use Rattle.canonical_nests.specs.LoopRules.Counts as counts
 use Rattle.canonical_nests.specs.LoopRules.Heads as heads
@@ -62,6 +64,10 @@ abbrev pub RulesFindLoops : Type 0
 RulesFindLoops =
     (p : PlacedPlan) (ps : List Part) (es : List ℕ) → ArgumentsFit (forget_plan p) → 0 < length ps →
     depths (forget_plan p) (lengths_below 0 ps) ≡ Some es → HasNone (counts.plan_breaches p 0 ps) → Finds (forget_plan p) 0 ps
+
+-- where a directive and its items break no rule of clauses, their arguments fit
+abbrev pub ArgumentsOfRulesFit : Type 0
+ArgumentsOfRulesFit = (ds : List Define) (d : placed.Directive) → HasNone (clauses.directive_breaches ds d) → ArgumentsFit (plan_of ds (forget_directive d))
 
 -- numbers that a permutation may have, as the rules of clauses say, are an order
 abbrev pub PermutationsAreOrders : Type 0

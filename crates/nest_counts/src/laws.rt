@@ -1,6 +1,6 @@
 //! What the kinds of counts say of the trees of a construct.
 
-ghost use Rattle.nest_counts.specs.Laws.{BoundsAreInvariant, ConstructsHaveKinds, DirectivesKeepKinds, KnownCountsHold, PermutationsAreOrders, RulesFindLoops, TakenLoopsAreRectangular};
+ghost use Rattle.nest_counts.specs.Laws.{ArgumentsOfRulesFit, BoundsAreInvariant, ConstructsHaveKinds, DirectivesKeepKinds, KnownCountsHold, PermutationsAreOrders, RulesFindLoops, TakenLoopsAreRectangular};
 
 /// Where the count of a loop is known, every tree at its depth is a loop of that many turns.
 pub fn known_counts_hold()
@@ -39,4 +39,10 @@ pub fn rules_find_loops()
 /// As many different numbers from 1 to n as n, and n isn't 0, are an order of n loops.
 pub fn permutations_are_orders()
     ensures { PermutationsAreOrders }
+{}
+
+/// In a directive that breaks no rule of clauses, sizes are at least 1, a permutation is one, no item is `fuse`, and each
+/// item's arguments fit.
+pub fn arguments_of_rules_fit()
+    ensures { ArgumentsOfRulesFit }
 {}
