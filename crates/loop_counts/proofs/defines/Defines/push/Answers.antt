@@ -1,0 +1,28 @@
+-- The new define counts for its name.
+use Rattle.std.proofs.Common.{◌≡◌, ◌∙◌, sym, ap, subst, cond, ◌∷◌, Some, OnOk}
+use Rattle.std.specs.Prelude.{bytes_eq}
+use Rattle.indexmap.specs.IndexMap.{get}
+use Rattle.c_semantics.specs.Meaning.Expressions.{Define}
+use Rattle.loop_counts.specs.declared.defines.Constant.{Constant}
+use Rattle.loop_counts.specs.Defines.{define_of}
+use Rattle.loop_counts.proofs.ValuedNames.{valued_added, view_added}
+use Rattle.loop_counts.proofs.defines.Defines.push.Goals as goal
+use Rattle.loop_counts.proofs.defines.Defines.push.Goals.{in-Ok, in-Err}
+
+pub invariant_of-self-in-Ok : goal.invariant_of-self-in-Ok
+invariant_of-self-in-Ok c =
+    let d : Constant = record { name = c.args.name; value = c.args.value } in
+    valued_added c.self.inside (record { alloc = c.self.inside.alloc; defines = c.push.new.self; values = c.insert.new.self }) d c.in_ok-push.ensures.items c.self.invariant
+    (λ q. c.in-Ok.ensures.updates.0 q ∙ ap (λ k. cond (bytes_eq k q) (Some c.args.value) (get bytes_eq c.self.inside.values q)) c.in_ok-key.ensures)
+
+pub returns : goal.returns
+returns c =
+    let d : Constant = record { name = c.args.name; value = c.args.value } in
+    elim c.match-insert.branch [
+      | in-Ok w ↦
+          subst (λ r. OnOk r (c.match-insert.self ≡ define_of d ∷ c.args.self.now)) (sym w.result-is)
+          (w.self-is
+          ∙ (view_added c.self.inside (record { alloc = c.self.inside.alloc; defines = c.push.new.self; values = c.insert.new.self }) d c.in_ok-push.ensures.items
+          ∙ ap (λ ds. define_of d ∷ ds) c.self.view_is))
+      | in-Err w ↦ subst (λ r. OnOk r (c.match-insert.self ≡ define_of d ∷ c.args.self.now)) (sym w.result-is) tt
+    ]
