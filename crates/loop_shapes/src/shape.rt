@@ -41,6 +41,7 @@ fn shaped(alloc: Global, parts: Vec<Part>) -> Result<Shape, AllocError>
 /// `NoShape` exactly where a directive in it that has to give loops breaks a rule of structure, at the least such place;
 /// else `NotCanonical` exactly where an affected loop isn't canonical, at the word `for` of the first such loop; `Memory`
 /// is want of memory.
+#[tactic(auto, using(crate::proofs::Shaped::places))]
 pub fn shape<'p>(
     alloc: Global,
     program: &'p Program,
