@@ -7,11 +7,11 @@ use Rattle.c_tree.specs.Bare.{Name, Expr, num, read, item, un, bin, cond, cast, 
 use Rattle.c_semantics.specs.Meaning.FileVariables.{has_name}
 use Rattle.c_semantics.specs.Laws.Names.{Names, NamesEach, NamesIf, NamesIn, Uses, UsesAll, UsesIf}
 use Rattle.loop_normal.specs.DrawnNames.{FreshNames, drawn, after_draw, AreDigits}
-use Rattle.apply_rewrite.specs.SourceNames.{begins_like_fresh, kept, expr_names, exprs_names, option_names, target_names, stmt_names, stmts_names, part_names, head_names, params_names, program_names, beside_program}
+use Rattle.carried_out.specs.SourceNames.{begins_like_fresh, kept, expr_names, exprs_names, option_names, target_names, stmt_names, stmts_names, part_names, head_names, params_names, program_names, beside_program}
 use Rattle.loop_normal.proofs.FreshFrames.{same_name}
 use Rattle.loop_normal.proofs.Drawn.{drawn_is_untaken}
 use Rattle.apply_rewrite.proofs.NamesMore.{AnyCall}
-use Rattle.apply_rewrite.proofs.SpentNames.{Spent, after_are}
+use Rattle.carried_out.proofs.SpentNames.{Spent, after_are}
 use Rattle.apply_rewrite.proofs.Items.{BodiesUse, bodies_more}
 
 -- taken, where it begins as fresh names do

@@ -1,0 +1,14 @@
+pub mod Fresh
+pub mod FromZero
+pub mod Scopes
+pub mod Uses
+pub mod Declares
+pub mod Generated
+pub mod Heads
+pub mod Walk
+pub mod Declared
+pub mod SourceNames
+pub mod Items
+pub mod ReversalNeed
+pub mod BoundReads
+pub mod Rules
