@@ -1,15 +1,14 @@
 -- Statements do the same when stacks in them are replaced, wherever a state has the variables of their scope: what a
 -- statement does is made of what its parts do. The functions that they call need only do the same where they are called.
 use Rattle.std.proofs.Common.{◌≡◌, refl, sym, ap, ◌∙◌, ℕ, zero, suc, List, [], ◌∷◌, Option, Some, None, Ok, ℤ, slice_get}
-use Rattle.c_tree.specs.Bare.{Name, Expr, Exprs, Directive, Stmt, decl, set, step, print, input, break_, continue_, empty, call, Stmts, no_stmts, more_stmts, Head, MaybeStmt, no_stmt, a_stmt}
+use Rattle.c_tree.specs.Bare.{Name, Exprs, Stmt, decl, set, step, print, input, break_, continue_, empty, call, Stmts, MaybeStmt, no_stmt, a_stmt}
 use Rattle.c_tree.specs.declared.tree.Ty.{Ty}
 use Rattle.c_tree.specs.WellFormed.{MayBegin, MayEnd}
 use Rattle.c_semantics.specs.Meaning.State.{scalar, Var, State, find, push, with_frame}
 use Rattle.c_semantics.specs.Meaning.Expressions.{Define}
-use Rattle.c_semantics.specs.Meaning.Runs.{Next, Run, Meaning, ends, then_do, leave, in_block, turn_end, with_end, turn_of, for_turn, while_loop}
+use Rattle.c_semantics.specs.Meaning.Runs.{Next, Run, ends, then_do, leave, in_block, turn_end, with_end, turn_of, for_turn, while_loop}
 use Rattle.c_semantics.specs.Meaning.SimpleStatements.{Function, Env, holds_in, head_test, function_named, arguments, call_of, call_end, in_frame}
 use Rattle.c_semantics.specs.Meaning.Statements.{exec, exec_all, exec_maybe}
-use Rattle.c_semantics.specs.Loops.CanonicalForm.{Canonical}
 use Rattle.c_semantics.specs.Loops.TripCount.{entry}
 use Rattle.c_semantics.specs.Loops.Directives.{plan_of}
 use Rattle.c_semantics.specs.Loops.Execution.{Body, run_body}
@@ -18,9 +17,8 @@ use Rattle.c_scopes.specs.Types.{type_held, FileHasTypes, HasTypes, EachKeepsFil
 use Rattle.c_scopes.proofs.Kept.{all_grown, iteration_same}
 use Rattle.c_scopes.proofs.Scopes.{kept, pushed, statements_keep_types, blocks_keep_types}
 use Rattle.c_scopes.proofs.Alike.{AlikeIn, KeepsIn, then_alike, value_alike, ask_alike, block_alike, turn_of_alike, for_turn_alike, for_turn_keeps, while_alike, do_alike, forest_alike}
-use Rattle.loop_normal.specs.Templates.{LoopNames}
 use Rattle.apply_rewrite.specs.Laws.{StatementsRunAlike}
-use Rattle.apply_rewrite.specs.ReverseStacks.{times_after, IsStack}
+use Rattle.apply_rewrite.specs.ReverseStacks.{times_after}
 use Rattle.apply_rewrite.specs.Rewritten.{IsSimple, Rewritten, same, in_if, in_if_else, in_while, in_do, in_for, a_stack, AllRewritten, none, more}
 use Rattle.apply_rewrite.specs.Rewritten as rewritten
 use Rattle.apply_rewrite.proofs.Stacks.{shown, construct_is, stack_is, typed_in}

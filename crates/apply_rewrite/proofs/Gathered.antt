@@ -1,5 +1,5 @@
 -- Names put together in a walk: what a loop has left, and lists one after another.
-use Rattle.std.proofs.Common.{◌≡◌, ◌<◌, ◌≤◌, ◌+◌, ℕ, List, [], ◌∷◌, ◌++◌, length, map, drop, slice_index_or, append_assoc, append-nil}
+use Rattle.std.proofs.Common.{◌≡◌, ◌<◌, ◌≤◌, ◌+◌, ℕ, List, [], ◌++◌, length, map, drop, slice_index_or, append_assoc, append-nil}
 use Rattle.c_tree.specs.BareOf.{bare_expr, bare_exprs, bare_stmt, bare_stmts, bare_param, bare_top}
 use Rattle.c_tree.specs.declared.tree.Expr.{Expr}
 use Rattle.c_tree.specs.declared.tree.Stmt.{Stmt}

@@ -16,7 +16,7 @@ use Rattle.carried_out.specs.Reversible.{are_reversible, are_reversible_items}
 use Rattle.apply_rewrite.proofs.NamesMore.{AnyCall, all_more}
 use Rattle.carried_out.proofs.SpentNames.{Spent}
 use Rattle.apply_rewrite.proofs.CarriedOut.{good_stmts}
-use Rattle.apply_rewrite.proofs.Reversals.{left_true, right_true}
+use Rattle.carried_out.proofs.Tests.{left_true, right_true}
 
 -- the names of the bodies
 abbrev pub BodiesUse : (Name → Type 0) → Program → Type 0

@@ -15,7 +15,7 @@ use Rattle.apply_rewrite.specs.NoDirectives.{NoDirectives}
 use Rattle.carried_out.specs.Reversible.{is_reversal, are_reversals}
 use Rattle.apply_rewrite.specs.ReverseStacks.{times_after, times_after_items, reversed_all}
 use Rattle.carried_out.specs.CarriedOut.{made_reverse, planned, items_applied}
-use Rattle.apply_rewrite.proofs.Reversals.{left_true, right_true}
+use Rattle.carried_out.proofs.Tests.{left_true, right_true}
 use Rattle.apply_rewrite.proofs.NamesMore.{AnyCall}
 use Rattle.carried_out.proofs.SpentNames.{draws, Each}
 

@@ -4,7 +4,7 @@ use Rattle.std.specs.Prelude.{bytes_eq, if◌then◌else◌}
 use Rattle.c_tree.specs.Bare.{Name, Exprs, Param, Stmts, Top, define, extern_, global, function, main, Program}
 use Rattle.c_semantics.specs.Meaning.State.{scalar, Var, State, push, with_frame, with_globals, nowhere}
 use Rattle.c_semantics.specs.Meaning.Expressions.{Define}
-use Rattle.c_semantics.specs.Meaning.SimpleStatements.{Function, Env, function_named, arguments}
+use Rattle.c_semantics.specs.Meaning.SimpleStatements.{Function, function_named, arguments}
 use Rattle.c_semantics.specs.Meaning.Statements.{exec_all}
 use Rattle.c_semantics.specs.Meaning.FileVariables.{defines_with}
 use Rattle.c_semantics.specs.Meaning.Programs.{Outcome, finish, globals_with, run_items, run_program}

@@ -1,28 +1,15 @@
--- Plans that only reverse one loop: what they make of trees, of parts and of code, and the loops that they ask for.
-use Rattle.std.proofs.Common.{◌≡◌, refl, sym, ap, ◌∙◌, subst, ℕ, zero, suc, ◌+◌, ◌-◌, ◌≤◌, List, [], ◌∷◌, ◌++◌, Option, Some, None, Bool, true, false, ◌&&◌, arith, append-nil}
-use Rattle.std.specs.Prelude.{if◌then◌else◌, nat_le, unwrap_or}
-use Rattle.std.proofs.lemmas.Bool.{both_ways, leb-true}
-use Rattle.std.proofs.Math.Bool.{and-true}
-use Rattle.std.proofs.Math.Numerals.{add-one}
+-- Plans that only reverse one loop: what they make of trees and of parts.
+use Rattle.std.proofs.Common.{◌≡◌, refl, sym, ap, ◌∙◌, ℕ, zero, suc, ◌-◌, List, [], ◌∷◌, true, false, arith, append-nil}
+use Rattle.std.specs.Prelude.{nat_le}
+use Rattle.std.proofs.lemmas.Bool.{both_ways}
 use Rattle.c_semantics.specs.Loops.IterationTrees.{Tree}
-use Rattle.c_semantics.specs.Loops.Transformations.{Transformation, tile, interchange, reverse_, split, fuse, unroll_full, unroll_partial, transform, Plan, plan, Applied, none_applied, applied_at, apply_plan, apply_items, on_position, at_part, below_loops}
-use Rattle.c_semantics.specs.Loops.Need.{depths, applied_depths, if_some, part_depths, below_depths, serves, least_from, need, loops_asked, reach, each_at_least}
+use Rattle.c_semantics.specs.Loops.Transformations.{tile, interchange, reverse_, split, fuse, unroll_full, unroll_partial, transform, Plan, plan, Applied, none_applied, applied_at, apply_plan, apply_items, on_position, at_part, below_loops}
 use Rattle.c_semantics.specs.Structure.Parts as shape
 use Rattle.c_semantics.specs.Structure.Parts.{Part, plan_parts, applied_parts}
 use Rattle.carried_out.specs.Reversible.{is_reversal, are_reversals}
+use Rattle.carried_out.proofs.LoopsAsked.{at_first}
+use Rattle.carried_out.proofs.Tests.{left_true, right_true}
 use Rattle.apply_rewrite.specs.ReverseStacks.{times_after, times_after_items}
-
-pub left_true : (a b : Bool) → (a && b) ≡ true → a ≡ true
-left_true true b h = refl
-left_true false b h = h
-
-pub right_true : (a b : Bool) → (a && b) ≡ true → b ≡ true
-right_true true b h = h
-right_true false b h = absurd (both_ways false refl h)
-
--- an item stands on the outermost loop
-at_first : (p : ℕ) → nat_le p 1 ≡ true → p - 1 ≡ 0
-at_first p h = let l : p ≤ 1 = leb-true p 1 h in omega arith
 
 -- ---- the trees
 
@@ -82,44 +69,3 @@ mutual
       let rest = right_true (nat_le p 1) _ h in
       ap (applied_parts reverse_ w) (on_first_part p (plan_parts d) q (left_true (nat_le p 1) _ h) ∙ part_kept d (left_true (is_reversal d) _ rest) q)
       ∙ part_kept_by w (right_true (is_reversal d) _ rest) q
-
--- ---- the loops that are asked for
-
--- what an item on the outermost loop of one loop gives
-on_first_depth : (p : ℕ) (f : List ℕ → Option (List ℕ)) → nat_le p 1 ≡ true → f (1 ∷ []) ≡ Some (1 ∷ []) → part_depths 0 (below_depths (p - 1) f) (1 ∷ []) ≡ Some (1 ∷ [])
-on_first_depth p f h e =
-    ap (λ k. part_depths 0 (below_depths k f) (1 ∷ [])) (at_first p h)
-    ∙ ap (λ o. if_some (if_some o (λ bs. Some bs)) (λ bs. Some (bs ++ []))) e
-
-mutual
-  one_deep : (p : Plan) → is_reversal p ≡ true → depths p (1 ∷ []) ≡ Some (1 ∷ [])
-  one_deep (plan reverse_ w) h = one_deep_by w h
-  one_deep (plan (tile ss) w) h = absurd (both_ways false refl h)
-  one_deep (plan (interchange qs) w) h = absurd (both_ways false refl h)
-  one_deep (plan (split cs) w) h = absurd (both_ways false refl h)
-  one_deep (plan (fuse r) w) h = absurd (both_ways false refl h)
-  one_deep (plan unroll_full w) h = absurd (both_ways false refl h)
-  one_deep (plan (unroll_partial n) w) h = absurd (both_ways false refl h)
-
-  one_deep_by : (w : Applied) → are_reversals w ≡ true → applied_depths reverse_ w (1 ∷ []) ≡ Some (1 ∷ [])
-  one_deep_by none_applied h = refl
-  one_deep_by (applied_at p d w) h =
-      let rest = right_true (nat_le p 1) _ h in
-      ap (λ o. if_some o (applied_depths reverse_ w)) (on_first_depth p (depths d) (left_true (nat_le p 1) _ h) (one_deep d (left_true (is_reversal d) _ rest)))
-      ∙ one_deep_by w (right_true (is_reversal d) _ rest)
-
-serves_one : (p : Plan) → is_reversal p ≡ true → (m : ℕ) → nat_le m 1 ≡ true → serves p m 1 ≡ true
-serves_one p h m l = ap (each_at_least m) (one_deep p h) ∙ and-true (nat_le m 1) ∙ l
-
-least_is_one : (p : Plan) (m j : ℕ) → serves p m 1 ≡ true → unwrap_or (least_from p m 1 (j + 1)) 1 ≡ 1
-least_is_one p m j e = ap (λ k. unwrap_or (least_from p m 1 k) 1) (add-one j) ∙ ap (λ b. unwrap_or (if b then Some 1 else least_from p m 2 j) 1) e
-
--- one loop, whether one is wanted of what it gives or none
-pub asks_for_one : (p : Plan) → is_reversal p ≡ true → (m : ℕ) → nat_le m 1 ≡ true → loops_asked p m ≡ 1
-asks_for_one (plan reverse_ w) h m l = least_is_one (plan reverse_ w) m (reach (plan reverse_ w) + m) (serves_one (plan reverse_ w) h m l)
-asks_for_one (plan (tile ss) w) h m l = absurd (both_ways false refl h)
-asks_for_one (plan (interchange qs) w) h m l = absurd (both_ways false refl h)
-asks_for_one (plan (split cs) w) h m l = absurd (both_ways false refl h)
-asks_for_one (plan (fuse r) w) h m l = absurd (both_ways false refl h)
-asks_for_one (plan unroll_full w) h m l = absurd (both_ways false refl h)
-asks_for_one (plan (unroll_partial n) w) h m l = absurd (both_ways false refl h)

@@ -1,15 +1,15 @@
 -- The last variable of a name, and what is visible when variables are added or taken away.
-use Rattle.std.proofs.Common.{◌≡◌, ◌∙◌, sym, ap, refl, ℕ, zero, suc, ◌+◌, ◌-◌, ◌<◌, ◌≤◌, Bool, true, false, List, [], ◌∷◌, ◌++◌, length, take, drop, reverse, map, arith, append_assoc}
+use Rattle.std.proofs.Common.{◌≡◌, ◌∙◌, sym, ap, refl, ℕ, zero, suc, ◌+◌, ◌-◌, ◌<◌, ◌≤◌, true, false, List, [], ◌∷◌, ◌++◌, length, take, drop, reverse, map, arith, append_assoc}
 use Rattle.std.proofs.lemmas.List.{reverse-append, length-append, length-reverse, length-drop, take-append-drop, take_all, take_more, map-append}
 use Rattle.std.proofs.Math.Seq.{drop-append_seam}
 use Rattle.std.specs.Prelude.{bytes_eq, is_some, if◌then◌else◌, slice_index_or, Option, Some, None}
-use Rattle.c_tree.specs.Bare.{Name, Stmt, decl, Stmts, no_stmts, more_stmts, Head, head, MaybeStmt, no_stmt, a_stmt, Param}
+use Rattle.c_tree.specs.Bare.{Name, Stmt, decl, Stmts, no_stmts, more_stmts, Head, head, no_stmt, a_stmt, Param}
 use Rattle.c_tree.specs.declared.tree.Ty.{Ty}
 use Rattle.c_tree.specs.BareOf.{bare_param}
 use Rattle.c_tree.specs.declared.tree.Param as code
 use Rattle.c_tree.proofs.Walks.{rest_more, rest_none}
 use Rattle.c_semantics.specs.Meaning.State.{scalar, Cell, Var, State, find, look, or_else, keep, push, with_frame, with_globals}
-use Rattle.c_semantics.specs.Structure.Skeleton.{scope_after, scope_in}
+use Rattle.c_semantics.specs.Structure.Skeleton.{scope_after}
 use Rattle.c_scopes.specs.Types.{type_held, type_filed, with_params}
 use Rattle.loop_normal.specs.Templates.{SourceLoop}
 use Rattle.carried_out.specs.CarriedOut.{in_head, scope_below}

@@ -2,7 +2,7 @@
 -- `reverse` these don't depend on the scope.
 use Rattle.std.proofs.Common.{◌≡◌, refl, sym, ap, ◌∙◌, subst, ℕ, List, [], ◌∷◌, ◌++◌, Option, Some, None, true, false}
 use Rattle.std.specs.Prelude.{is_some, if◌then◌else◌, flat_map, nat_le}
-use Rattle.std.proofs.lemmas.Bool.{both_ways}
+use Rattle.std.proofs.lemmas.Bool.{both_ways, leb-true}
 use Rattle.std.proofs.lemmas.List.{append-nil}
 use Rattle.c_tree.specs.Bare.{Name, Expr, read, bin, Directive, Stmt, decl, set, step, print, input, if_, if_else, while_, do_, for_, block, break_, continue_, empty, omp, call, Stmts, no_stmts, more_stmts, MaybeStmt, head, define, extern_, global, function, main, Program}
 use Rattle.c_tree.specs.declared.tree.BinOp.TheVariants.{Sub}
@@ -24,8 +24,10 @@ use Rattle.loop_normal.specs.FromZero.{from_zero, after_from_zero}
 use Rattle.permute_reverse.specs.Reversed.{reversed, reversed_gen}
 use Rattle.carried_out.specs.CarriedOut.{Made, made_leaf, made_reverse, planned, items_applied, loop_at, scope_below, carried, carried_all, nest, nest_in, carried_top, carried_items, carried_out}
 use Rattle.carried_out.specs.Reversible.{all_stay_in, is_reversal, are_reversals, is_reversible, are_reversible, is_nest, is_nest_in, are_reversible_items, is_reversible_program}
-use Rattle.apply_rewrite.proofs.Reversals.{left_true, right_true, part_kept, asks_for_one}
-use Rattle.apply_rewrite.proofs.WellFormedCode.{stays_from_zero}
+use Rattle.carried_out.proofs.FromZero.{stays_from_zero}
+use Rattle.carried_out.proofs.LoopsAsked.{asks_one}
+use Rattle.carried_out.proofs.Tests.{left_true, right_true}
+use Rattle.apply_rewrite.proofs.Reversals.{part_kept}
 
 module _ (ds : List Define) where
   -- two statements, or two lists, have the same shapes in any two scopes
@@ -106,7 +108,7 @@ module _ (ds : List Define) where
   given_one : (d : Directive) → is_reversal (plan_of ds d) ≡ true → (j : ℕ) → nat_le j 1 ≡ true → (a : Stmts) (g : Gen) (n : OneLoop a g) (s : State) →
       plan_parts (plan_of ds d) (all_parts ds s (loops_asked (plan_of ds d) j) a) ≡ record { counts = n.count s ∷ []; list = n.shown } ∷ []
   given_one d r j l a g n s =
-      ap (λ i. plan_parts (plan_of ds d) (all_parts ds s i a)) (asks_for_one (plan_of ds d) r j l) ∙ ap (plan_parts (plan_of ds d)) (n.source s) ∙ part_kept (plan_of ds d) r _
+      ap (λ i. plan_parts (plan_of ds d) (all_parts ds s i a)) (asks_one (plan_of ds d) j (leb-true j 1 l) r) ∙ ap (plan_parts (plan_of ds d)) (n.source s) ∙ part_kept (plan_of ds d) r _
 
   -- the loops of a construct's block are those of the construct
   of_construct : (d : Directive) → is_reversal (plan_of ds d) ≡ true → (a : Stmts) (m : Made Gen) → OneLoop a m.tree → Alike (omp d a) (block (emit (planned (plan_of ds d) m).tree))

@@ -20,19 +20,20 @@ use Rattle.c_semantics.specs.Meaning.Expressions.{Define}
 use Rattle.c_semantics.specs.Meaning.FileVariables.{has_name, defines_with}
 use Rattle.c_semantics.specs.Loops.CanonicalForm.{Canonical, Init, Test, canonical, init, test, test_from, turned, is_read, increment, fits_test, is_step_for, with_step, with_test, with_init}
 use Rattle.c_semantics.specs.Loops.Directives.{plan_of}
-use Rattle.c_semantics.specs.Loops.Transformations.{tile, interchange, reverse_, split, fuse, unroll_full, unroll_partial, Plan, plan, Applied, none_applied, applied_at}
+use Rattle.c_semantics.specs.Loops.Transformations.{reverse_, Plan, plan, Applied, none_applied, applied_at}
 use Rattle.c_semantics.specs.Structure.Skeleton.{scope_after}
 use Rattle.c_scopes.specs.Types.{with_params}
 use Rattle.c_scopes.specs.Laws.{scope_with}
 use Rattle.loop_normal.specs.Gens.{gen_loop, Seq, Looped, Plain, Parts, no_parts, more_parts, Gen, join, let_stmt, parts_stmts, emit}
-use Rattle.loop_normal.specs.Templates.{ll, only, SourceLoop, LoopNames, leaf, source_var, count_by, is_up, signed_literal, value_expr, begins_at_zero, on_first, rebased}
+use Rattle.loop_normal.specs.Templates.{ll, only, SourceLoop, LoopNames, leaf, source_var, count_by, is_up, signed_literal, value_expr, begins_at_zero, on_first}
 use Rattle.loop_normal.specs.DrawnNames.{FreshNames, next_digits, numbered, untaken, drawn_digits, drawn, after_draw, after_draws, loop_names}
 use Rattle.loop_normal.specs.FromZero.{from_zero, after_from_zero}
 use Rattle.carried_out.specs.SourceNames.{beside_program}
 use Rattle.permute_reverse.specs.Reversed.{reversed, reversed_gen}
 use Rattle.carried_out.specs.CarriedOut.{Made, made_leaf, variable_type, with_type, where_typed, loop_at, scope_below, in_head, planned, items_applied, carried, carried_all, nest, nest_in, made_reverse, carried_top, carried_items, carried_out}
 use Rattle.carried_out.specs.Reversible.{all_stay_in, is_reversal, is_reversible, are_reversible, is_nest, is_nest_in, are_reversible_items, is_reversible_program}
-use Rattle.apply_rewrite.proofs.Reversals.{left_true, right_true}
+use Rattle.carried_out.proofs.FromZero.{stays_from_zero, draws_none}
+use Rattle.carried_out.proofs.Tests.{left_true, right_true, both_true}
 
 -- ---- drawn names
 
@@ -66,21 +67,18 @@ after_decimal (suc k) f h = after_decimal k (after_draw f) (next_decimal (drawn_
 abbrev in_word : ℕ → Bool
 in_word d = is_letter d || is_digit d
 
-both : (a b : Bool) → a ≡ true → b ≡ true → (a && b) ≡ true
-both a b x y = rw (x, y) refl
-
 or_true : (a : Bool) → (a || true) ≡ true
 or_true true = refl
 or_true false = refl
 
 digit_in_word : (d : ℕ) → 48 ≤ d → d ≤ 57 → in_word d ≡ true
-digit_in_word d h k = ap (λ b. is_letter d || b) (both _ _ (le-leb 48 d h) (le-leb d 57 k)) ∙ or_true (is_letter d)
+digit_in_word d h k = ap (λ b. is_letter d || b) (both_true _ _ (le-leb 48 d h) (le-leb d 57 k)) ∙ or_true (is_letter d)
 
 all_in_word : (ds : List ℕ) → AreDecimal ds → list_all in_word (reverse ds) ≡ true
 all_in_word [] h = refl
 all_in_word (d ∷ ds) h =
     ap (list_all in_word) (reverse-append (d ∷ []) ds) ∙ list_all-append in_word (reverse ds) (d ∷ [])
-    ∙ both _ _ (all_in_word ds h.2) (both _ _ (digit_in_word d h.0 h.1) refl)
+    ∙ both_true _ _ (all_in_word ds h.2) (both_true _ _ (digit_in_word d h.0 h.1) refl)
 
 numbered_name : (ds : List ℕ) → AreDecimal ds → IsName (numbered ds)
 numbered_name ds h = subst (λ b. IsTrue (b && not (is_among (numbered ds) keywords))) (sym (all_in_word ds h)) refl
@@ -254,13 +252,6 @@ reversed_well r g n w = record {
   body = ((w.counter_named, ((w.end_well, one_held), n)), w.body);
   front = w.front;
 }
-
--- code whose loop begins at 0 stays as it is
-pub stays_from_zero : (f : FreshNames) (g : Gen) → begins_at_zero g.parts ≡ true → from_zero f g ≡ g
-stays_from_zero f g e = ap (λ b. if b then g else (record { front = g.front; parts = on_first (rebased (drawn f) (drawn (after_draws 1 f)) (drawn (after_draws 2 f))) g.parts })) e
-
-draws_none : (f : FreshNames) (g : Gen) → begins_at_zero g.parts ≡ true → after_from_zero f g ≡ f
-draws_none f g e = ap (λ b. if b then f else after_draws 3 f) e
 
 emitted_well : (g : Gen) → WellGen g → WellFormedStmts (emit g)
 emitted_well g w = w.front (parts_stmts g.parts) (subst (λ z. WellFormedStmts (parts_stmts z)) (sym w.parts)

@@ -54,6 +54,7 @@ fn transformed(
 }
 
 /// The code of a loop under a plan: its transformation acts first, then its items.
+#[tactic(auto, using(crate::proofs::PlanWalks::made))]
 #[cycle(planned)]
 pub(crate) fn planned(
     alloc: Global,

@@ -1,7 +1,6 @@
--- A directive that breaks no clause rule, and that is `reverse` with all its items, has a plan that only reverses; and such
--- a plan asks for one loop.
-use Rattle.std.proofs.Common.{◌≡◌, refl, sym, ap, ◌∙◌, subst, ℕ, suc, ◌+◌, ◌-◌, ◌≤◌, List, [], ◌∷◌, ◌++◌, map, length, Option, Some, None, Bool, true, false, arith, add-one}
-use Rattle.std.specs.Prelude.{◌&&◌, ◌||◌, not, nat_le, nat_lt, if◌then◌else◌, unwrap_or, bytes_eq, codes}
+-- A directive that breaks no clause rule, and that is `reverse` with all its items, has a plan that only reverses.
+use Rattle.std.proofs.Common.{◌≡◌, refl, sym, ap, subst, ℕ, suc, ◌+◌, ◌-◌, ◌≤◌, List, [], ◌∷◌, map, length, Option, Some, None, Bool, true, false, arith}
+use Rattle.std.specs.Prelude.{◌&&◌, ◌||◌, not, nat_le, nat_lt, if◌then◌else◌, bytes_eq, codes}
 use Rattle.std.proofs.lemmas.Bool.{leb-true, le-leb}
 use Rattle.std.proofs.lemmas.Bool.Decides.{nat_tests}
 use Rattle.c_tree.specs.Bare as bare
@@ -10,8 +9,7 @@ use Rattle.c_tree.specs.Placed.{Exprs, no_exprs, more_exprs, Directive, directiv
 use Rattle.c_tree.specs.Forget.{forget_expr, forget_exprs, forget_directive, forget_clauses, forget_items, forget_item}
 use Rattle.c_tree.specs.declared.tree.Kind.TheVariants.{Reverse}
 use Rattle.c_semantics.specs.Meaning.Expressions.{Define}
-use Rattle.c_semantics.specs.Loops.Transformations.{reverse_, Plan, plan, Applied, none_applied, applied_at}
-use Rattle.c_semantics.specs.Loops.Need.{depths, applied_depths, below_depths, if_some, each_at_least, serves, least_from, reach, loops_asked}
+use Rattle.c_semantics.specs.Loops.Transformations.{Plan, plan, Applied, none_applied, applied_at}
 use Rattle.c_semantics.specs.Loops.Directives.{number, before, first_place, insert, plan_of, clauses_items, clause_items, put_items, put_item, sizes_in}
 use Rattle.canonical_nests.specs.LoopRules.BreachSets.{HasNone, breach_if}
 use Rattle.canonical_nests.specs.LoopRules.Clauses as rules
@@ -19,55 +17,22 @@ use Rattle.canonical_nests.specs.LoopRules.Clauses.{item_list, is_constant_from,
 use Rattle.canonical_nests.specs.declared.rules.LoopRule.TheVariants.{L24, L25}
 use Rattle.carried_out.specs.AllReverse.{is_reverse, clauses_reverse, items_reverse, item_reverses}
 use Rattle.carried_out.specs.Reversible.{is_reversal, are_reversals}
-use Rattle.carried_admitted.proofs.Tests.{and_left, and_right, both_hold, not_so}
-
--- ---- one loop is asked for
-
-first_position : (p : ℕ) → nat_le p 1 ≡ true → p - 1 ≡ 0
-first_position p h = let k : p ≤ 1 = leb-true p 1 h in omega arith
-
-mutual
-  one_kept : (P : Plan) → is_reversal P ≡ true → depths P (1 ∷ []) ≡ Some (1 ∷ [])
-  one_kept (plan reverse_ w) h = items_keep w h
-  one_kept (plan _ w) h = absurd (cc)
-
-  items_keep : (w : Applied) → are_reversals w ≡ true → applied_depths reverse_ w (1 ∷ []) ≡ Some (1 ∷ [])
-  items_keep none_applied h = refl
-  items_keep (applied_at p d w) h =
-      let at = first_position p (and_left (nat_le p 1) (is_reversal d && are_reversals w) h) in
-      let rest = and_right (nat_le p 1) (is_reversal d && are_reversals w) h in
-      let inner = one_kept d (and_left (is_reversal d) (are_reversals w) rest) in
-      let below : (k : ℕ) → k ≡ 0 → below_depths k (depths d) 1 ≡ Some (1 ∷ []) = λ k e. subst (λ j. below_depths j (depths d) 1 ≡ Some (1 ∷ [])) (sym e) (ap (λ o. if_some o (λ bs. Some bs)) inner) in
-      ap (λ o. if_some (if_some o (λ bs. Some (bs ++ []))) (applied_depths reverse_ w)) (below (p - 1) at)
-      ∙ items_keep w (and_right (is_reversal d) (are_reversals w) rest)
-
-first_tried : (P : Plan) (d k m : ℕ) → serves P d k ≡ true → least_from P d k (m + 1) ≡ Some k
-first_tried P d k m h = rw add-one (subst (λ t. (if t then Some k else least_from P d (suc k) m) ≡ Some k) (sym h) refl)
-
-one_serves : (P : Plan) → is_reversal P ≡ true → (serves P 0 1 ≡ true) × (serves P 1 1 ≡ true)
-one_serves P h = (ap (each_at_least 0) (one_kept P h), ap (each_at_least 1) (one_kept P h))
-
-pub one_asked : (P : Plan) → is_reversal P ≡ true → (loops_asked P 0 ≡ 1) × (loops_asked P 1 ≡ 1)
-one_asked (plan reverse_ w) h =
-    let s = one_serves (plan reverse_ w) h in (
-      ap (λ o. unwrap_or o 1) (first_tried (plan reverse_ w) 0 1 (reach (plan reverse_ w) + 0) s.0),
-      ap (λ o. unwrap_or o 1) (first_tried (plan reverse_ w) 1 1 (reach (plan reverse_ w) + 1) s.1),
-    )
-one_asked (plan _ w) h = absurd (cc)
+use Rattle.carried_out.proofs.Tests.{left_true, right_true, both_true}
+use Rattle.carried_admitted.proofs.Tests.{not_so}
 
 -- ---- the plan of a directive
 
 inserted : (p : ℕ) (d : Plan) (w : Applied) → nat_le p 1 ≡ true → is_reversal d ≡ true → are_reversals w ≡ true → are_reversals (insert p d w) ≡ true
-inserted p d none_applied hp hd hw = both_hold (nat_le p 1) (is_reversal d && true) hp (both_hold (is_reversal d) true hd refl)
+inserted p d none_applied hp hd hw = both_true (nat_le p 1) (is_reversal d && true) hp (both_true (is_reversal d) true hd refl)
 inserted p d (applied_at q e w) hp hd hw =
-    by (inserted p d w hp hd (and_right (is_reversal e) (are_reversals w) (and_right (nat_le q 1) (is_reversal e && are_reversals w) hw))) (nat_lt q p)
+    by (inserted p d w hp hd (right_true (is_reversal e) (are_reversals w) (right_true (nat_le q 1) (is_reversal e && are_reversals w) hw))) (nat_lt q p)
   where
     by : are_reversals (insert p d w) ≡ true → (t : Bool) → are_reversals (if t then applied_at p d (applied_at q e w) else applied_at q e (insert p d w)) ≡ true
-    by below true = both_hold (nat_le p 1) (is_reversal d && are_reversals (applied_at q e w)) hp (both_hold (is_reversal d) (are_reversals (applied_at q e w)) hd hw)
+    by below true = both_true (nat_le p 1) (is_reversal d && are_reversals (applied_at q e w)) hp (both_true (is_reversal d) (are_reversals (applied_at q e w)) hd hw)
     by below false =
-        let rest = and_right (nat_le q 1) (is_reversal e && are_reversals w) hw in
-        both_hold (nat_le q 1) (is_reversal e && are_reversals (insert p d w)) (and_left (nat_le q 1) (is_reversal e && are_reversals w) hw)
-        (both_hold (is_reversal e) (are_reversals (insert p d w)) (and_left (is_reversal e) (are_reversals w) rest) below)
+        let rest = right_true (nat_le q 1) (is_reversal e && are_reversals w) hw in
+        both_true (nat_le q 1) (is_reversal e && are_reversals (insert p d w)) (left_true (nat_le q 1) (is_reversal e && are_reversals w) hw)
+        (both_true (is_reversal e) (are_reversals (insert p d w)) (left_true (is_reversal e) (are_reversals w) rest) below)
 
 no_loops_before : (m : Option Name) → before 0 m ≡ 0
 no_loops_before None = refl
@@ -85,9 +50,9 @@ first_at : (ds : List Define) (m : Option Name) (es : Exprs) (is : Items) → in
     → nat_le (first_place (map (λ e. before 0 m + number ds e) (bare.expr_list (forget_exprs es))) (before 0 m + 1)) 1 ≡ true
 first_at ds m no_exprs is h = rw (no_loops_before m) refl
 first_at ds m (more_exprs e es) is h =
-    let from_one = and_left (are_from_one_to ds 1 (more_exprs e es)) _ h in
-    let first = and_left (is_constant_from ds 1 e && nat_le (placed_number ds e) 1) _ from_one in
-    let small : number ds (forget_expr e) ≤ 1 = leb-true _ 1 (and_right (is_constant_from ds 1 e) _ first) in
+    let from_one = left_true (are_from_one_to ds 1 (more_exprs e es)) _ h in
+    let first = left_true (is_constant_from ds 1 e && nat_le (placed_number ds e) 1) _ from_one in
+    let small : number ds (forget_expr e) ≤ 1 = leb-true _ 1 (right_true (is_constant_from ds 1 e) _ first) in
     let none : before 0 m ≡ 0 = no_loops_before m in
     le-leb (before 0 m + number ds (forget_expr e)) 1 (omega arith)
 
@@ -121,8 +86,8 @@ mutual
   clauses_reverse_only ds (more_clauses (clause (apply m es is) s) cs) earlier taken w h b k =
       clauses_reverse_only ds cs (apply m es is ∷ earlier) (also_taken ds 1 (apply m es is) taken)
       (clause_items ds 0 (bare.apply m (forget_exprs es) (forget_items is)) w)
-      (and_right (items_reverse (forget_items is)) (clauses_reverse (forget_clauses cs)) h) b.1.1.1
-      (apply_reverses_only ds taken m es is s.start w (and_left (items_reverse (forget_items is)) (clauses_reverse (forget_clauses cs)) h) b.1.1.0 k)
+      (right_true (items_reverse (forget_items is)) (clauses_reverse (forget_clauses cs)) h) b.1.1.1
+      (apply_reverses_only ds taken m es is s.start w (left_true (items_reverse (forget_items is)) (clauses_reverse (forget_clauses cs)) h) b.1.1.0 k)
   clauses_reverse_only ds (more_clauses (clause _ s) cs) earlier taken w h b k = absurd b.1.0
 
   apply_reverses_only : (ds : List Define) (taken : List ℕ) (m : Option Name) (es : Exprs) (is : Items) (at : ℕ) (w : Applied)
@@ -131,7 +96,7 @@ mutual
       → are_reversals (put_items ds (map (λ e. before 0 m + number ds e) (bare.expr_list (forget_exprs es))) (before 0 m + 1) (forget_items is) w) ≡ true
   apply_reverses_only ds taken m es no_items at w h k own = own
   apply_reverses_only ds taken m es (more_items i no_items) at w h k own =
-      item_reverses_only ds i _ w (and_left (item_reverses (forget_item i)) true h) k.1 (first_at ds m es (more_items i no_items) (fitting (indices_fit ds 1 es (more_items i no_items)) _ at k.0.1.1)) own
+      item_reverses_only ds i _ w (left_true (item_reverses (forget_item i)) true h) k.1 (first_at ds m es (more_items i no_items) (fitting (indices_fit ds 1 es (more_items i no_items)) _ at k.0.1.1)) own
   apply_reverses_only ds taken m es (more_items i (more_items j is)) at w h k own = absurd (two_items (length (item_list is)) (not_so _ L24 at k.0.1.0))
 
   item_reverses_only : (ds : List Define) (i : Item) (p : ℕ) (w : Applied) → item_reverses (forget_item i) ≡ true → HasNone (rules.items_breaches ds (more_items i no_items))

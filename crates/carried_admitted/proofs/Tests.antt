@@ -1,20 +1,8 @@
 -- Tests that hold, and sets without a breach.
 use Rattle.std.proofs.Common.{◌≡◌, refl, Bool, true, false, ℕ}
-use Rattle.std.specs.Prelude.{◌&&◌, ◌||◌, if◌then◌else◌}
+use Rattle.std.specs.Prelude.{◌||◌, if◌then◌else◌}
 use Rattle.canonical_nests.specs.declared.rules.LoopRule.{LoopRule}
 use Rattle.canonical_nests.specs.LoopRules.BreachSets.{BreachSet, none, one, ◌&◌, HasNone, has_some, or_else, breach_if}
-
-pub and_left : (a b : Bool) → (a && b) ≡ true → a ≡ true
-and_left true b h = refl
-and_left false b h = h
-
-pub and_right : (a b : Bool) → (a && b) ≡ true → b ≡ true
-and_right true b h = h
-and_right false b h = absurd (cc)
-
-pub both_hold : (a b : Bool) → a ≡ true → b ≡ true → (a && b) ≡ true
-both_hold true b h k = k
-both_hold false b h k = h
 
 pub not_so : (t : Bool) (rule : LoopRule) (at : ℕ) → HasNone (breach_if t rule at) → t ≡ false
 not_so true rule at h = absurd h

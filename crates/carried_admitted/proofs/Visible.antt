@@ -11,7 +11,7 @@ use Rattle.c_tree.specs.declared.name_rule.Entity.{Entity}
 use Rattle.c_tree.specs.declared.name_rule.Entity.TheVariants.{Define, Variable, Function}
 use Rattle.c_tree.specs.NameRules.BreachSets.{HasNone}
 use Rattle.c_tree.specs.NameRules.Scopes as names
-use Rattle.c_tree.specs.NameRules.Scopes.{Scope, meaning, is_taken, declare, add, a_scalar, inner, after_stmt, after_part, after_head}
+use Rattle.c_tree.specs.NameRules.Scopes.{Scope, meaning, is_taken, declare, add, a_scalar, inner, after_stmt, after_part}
 use Rattle.c_tree.specs.NameRules.Breaches.{use_breaches, assign_breaches}
 use Rattle.c_semantics.specs.Meaning.State.{Cell, scalar, State, find, or_else, push, with_globals}
 use Rattle.c_semantics.specs.Structure.Skeleton.{scope_after, scope_in}

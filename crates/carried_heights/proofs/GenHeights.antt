@@ -1,6 +1,5 @@
 -- How high the block of a reversed loop is: two more than what stands in the loop.
 use Rattle.std.proofs.Common.{◌≡◌, refl, sym, ap, subst, ◌≤◌, ◌+◌, ℕ, Bool, true, false, ◌⊎◌, inl, inr, arith, max, lit≤, ℤ, nat_abs}
-use Rattle.std.specs.Prelude.{if◌then◌else◌}
 use Rattle.std.proofs.Math.Nat.{le-max_left, le-max_right, max-le}
 use Rattle.c_tree.specs.Bare.{Name, Expr, read, bin, block, Stmts, no_stmts, more_stmts}
 use Rattle.c_tree.specs.Height.{expr_height, stmt_height, stmts_height}
@@ -8,10 +7,11 @@ use Rattle.c_tree.specs.declared.tree.Ty.{Ty}
 use Rattle.c_tree.specs.declared.tree.BinOp.{BinOp}
 use Rattle.c_tree.specs.declared.tree.BinOp.TheVariants.{Sub, Lt, Gt, Le, Ge, Ne}
 use Rattle.loop_normal.specs.Gens.{gen_loop, Seq, Looped, Plain, Parts, no_parts, more_parts, Gen, join, let_stmt, parts_stmts, emit}
-use Rattle.loop_normal.specs.Templates.{ll, only, SourceLoop, LoopNames, leaf, source_var, count_by, is_up, signed_literal, value_expr, begins_at_zero, on_first, rebased}
-use Rattle.loop_normal.specs.DrawnNames.{FreshNames, drawn, after_draws}
+use Rattle.loop_normal.specs.Templates.{ll, only, SourceLoop, LoopNames, leaf, source_var, count_by, is_up, signed_literal, value_expr, begins_at_zero, on_first}
+use Rattle.loop_normal.specs.DrawnNames.{FreshNames}
 use Rattle.loop_normal.specs.FromZero.{from_zero}
 use Rattle.permute_reverse.specs.Reversed.{reversed, reversed_gen}
+use Rattle.carried_out.proofs.FromZero.{stays_from_zero}
 
 -- one loop from 0 on, whose list is so high, after a front of one more
 pub record LowLoop (k : ℕ) (g : Gen) : Type 0 where
@@ -103,9 +103,6 @@ reversed_low k r g seven (inr w) = inr (record {
 pub at_zero : (k : ℕ) (g : Gen) → LowGen k g → begins_at_zero g.parts ≡ true
 at_zero k g (inl e) = ap (λ z. begins_at_zero z.parts) e
 at_zero k g (inr w) = ap begins_at_zero w.parts
-
-stays_from_zero : (f : FreshNames) (g : Gen) → begins_at_zero g.parts ≡ true → from_zero f g ≡ g
-stays_from_zero f g e = ap (λ b. if b then g else (record { front = g.front; parts = on_first (rebased (drawn f) (drawn (after_draws 1 f)) (drawn (after_draws 2 f))) g.parts })) e
 
 pub from_zero_low : (k : ℕ) (f : FreshNames) (g : Gen) → LowGen k g → LowGen k (from_zero f g)
 from_zero_low k f g w = subst (LowGen k) (sym (stays_from_zero f g (at_zero k g w))) w

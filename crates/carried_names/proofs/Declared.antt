@@ -31,8 +31,8 @@ use Rattle.permute_reverse.specs.Reversed.{reversed, reversed_gen}
 use Rattle.carried_out.specs.CarriedOut.{Made, made_leaf, made_reverse, transformed, planned, items_applied, variable_type, with_type, where_typed, loop_at, scope_below, in_head, carried, carried_all, nest, nest_in}
 use Rattle.carried_out.specs.Reversible.{all_stay_in, is_reversal, is_reversible, are_reversible, is_nest, is_nest_in}
 use Rattle.carried_names.proofs.Fresh.{Fresh, Source, Reached, reached_more, drawn_fresh}
-use Rattle.carried_names.proofs.FromZero.{stays_from_zero, draws_none}
-use Rattle.carried_names.proofs.Walk.{left_true, right_true}
+use Rattle.carried_out.proofs.FromZero.{stays_from_zero, draws_none}
+use Rattle.carried_out.proofs.Tests.{left_true, right_true}
 
 -- ---- a name more
 

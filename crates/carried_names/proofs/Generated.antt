@@ -22,7 +22,7 @@ use Rattle.permute_reverse.specs.Reversed.{reversed, reversed_gen}
 use Rattle.carried_out.specs.CarriedOut.{Made, made_reverse, transformed, planned, items_applied}
 use Rattle.c_semantics.specs.Loops.Transformations.{Transformation, reverse_, Plan, plan, Applied, none_applied, applied_at}
 use Rattle.carried_out.proofs.SpentNames.{Spent, Each}
-use Rattle.carried_names.proofs.FromZero.{stays_from_zero, draws_none}
+use Rattle.carried_out.proofs.FromZero.{stays_from_zero, draws_none}
 use Rattle.carried_names.proofs.Fresh.{Fresh, Source, Reached, reached_more, drawn_fresh, reached_digits}
 use Rattle.carried_names.proofs.Scopes.{Under, Clean, Alike, Scalar, Free, own_scalar, still_scalar, inner_scalar, still_free, not_taken, under_then, under_inner, under_fresh, under_source, clean_source, source_apart, alike_inside}
 use Rattle.carried_names.proofs.Uses.{expr_kept, scalar_read}

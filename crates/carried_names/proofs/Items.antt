@@ -4,7 +4,7 @@ use Rattle.std.proofs.Common.{◌≡◌, refl, sym, ap, ◌∙◌, subst, ℕ, �
 use Rattle.std.specs.Prelude.{bytes_eq, is_some, if◌then◌else◌}
 use Rattle.std.proofs.lemmas.Bool.{both_ways}
 use Rattle.c_tree.specs.Bare as b
-use Rattle.c_tree.specs.Bare.{Name, Stmts, Top, define, extern_, global, function, main, Program}
+use Rattle.c_tree.specs.Bare.{Name, define, extern_, global, function, main, Program}
 use Rattle.c_tree.specs.WellFormed.{WellFormedTops}
 use Rattle.c_tree.specs.declared.tree.Ty.{Ty}
 use Rattle.c_tree.specs.declared.tree.Port.{Port}
@@ -13,7 +13,7 @@ use Rattle.c_tree.specs.declared.name_rule.NameRule.TheVariants.{N2}
 use Rattle.c_tree.specs.declared.name_rule.Entity.{Entity}
 use Rattle.c_tree.specs.declared.name_rule.Entity.TheVariants.{Define, Function}
 use Rattle.c_tree.specs.NameRules.BreachSets.{HasNone}
-use Rattle.c_tree.specs.NameRules.Scopes.{Scope, find, or_else, meaning, is_taken, add, declare, a_scalar, inner}
+use Rattle.c_tree.specs.NameRules.Scopes.{Scope, find, or_else, is_taken, add, declare, a_scalar, inner}
 use Rattle.c_tree.specs.NameRules.Scopes as scopes
 use Rattle.c_tree.specs.NameRules.DeclaredNames.{is_among, with_name}
 use Rattle.c_tree.specs.NameRules.DeclaredNames as names
@@ -21,11 +21,11 @@ use Rattle.c_tree.specs.NameRules.CallDepth.{deepest_calls}
 use Rattle.c_tree.specs.NameRules.Breaches.{breach_if}
 use Rattle.c_tree.specs.NameRules.Programs.{Known, with_port, with_global, more_elements, breaches_from, nothing_known}
 use Rattle.c_tree.specs.Constants.{defined_as}
-use Rattle.c_semantics.specs.Meaning.State.{Cell, scalar, Var, State, with_globals, nowhere}
+use Rattle.c_semantics.specs.Meaning.State.{Cell, scalar, State, with_globals, nowhere}
 use Rattle.c_semantics.specs.Meaning.State as state
 use Rattle.c_semantics.specs.Meaning.Expressions as values
 use Rattle.c_semantics.specs.Meaning.FileVariables.{defines_with}
-use Rattle.c_scopes.specs.Types.{type_held, type_seen, type_filed}
+use Rattle.c_scopes.specs.Types.{type_held, type_filed}
 use Rattle.c_scopes.specs.Types as types
 use Rattle.c_scopes.specs.Laws.{scope_with}
 use Rattle.c_soundness.specs.Unplaced.{unplaced_exprs, unplaced_stmts, unplaced_param, unplaced}
@@ -40,7 +40,8 @@ use Rattle.carried_names.specs.Laws.{CarriedOutBreaksNone}
 use Rattle.carried_names.proofs.Fresh.{Source, Reached, reached_start}
 use Rattle.carried_names.proofs.Scopes.{Clean, clean_inner, alike_self, fresh_apart}
 use Rattle.carried_names.proofs.SourceNames.{ParamsDeclare, ItemsDeclare, declares_source}
-use Rattle.carried_names.proofs.Walk.{stmts_kept, left_true, right_true}
+use Rattle.carried_names.proofs.Walk.{stmts_kept}
+use Rattle.carried_out.proofs.Tests.{left_true, right_true}
 use Rattle.carried_names.proofs.Declared.{Within, within_same, within_params, SeenAmong, seen_params, stmts_within, own_in}
 
 params_seen : (ps : List b.Param) (ns : List Name) (x : Name) → is_among x ns ≡ true → is_among x (names.with_params ns (map unplaced_param ps)) ≡ true

@@ -1,5 +1,4 @@
 pub mod Fresh
-pub mod FromZero
 pub mod Scopes
 pub mod Uses
 pub mod Declares
@@ -9,6 +8,5 @@ pub mod Walk
 pub mod Declared
 pub mod SourceNames
 pub mod Items
-pub mod ReversalNeed
 pub mod BoundReads
 pub mod Rules

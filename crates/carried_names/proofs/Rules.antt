@@ -1,6 +1,6 @@
 -- A program that breaks no loop rule, and whose directives only reverse, has bounds that don't name their loop's variable.
-use Rattle.std.proofs.Common.{◌≡◌, refl, sym, ap, ◌∙◌, subst, List, [], ◌∷◌, map, Bool, true, false, ◌||◌, arith}
-use Rattle.std.specs.Prelude.{is_some, if◌then◌else◌}
+use Rattle.std.proofs.Common.{◌≡◌, refl, sym, subst, List, [], ◌∷◌, map, true, false, arith}
+use Rattle.std.specs.Prelude.{is_some}
 use Rattle.std.proofs.lemmas.Bool.{both_ways}
 use Rattle.c_tree.specs.Bare.{Name}
 use Rattle.c_tree.specs.BareOf.{bare_program}
@@ -18,10 +18,10 @@ use Rattle.c_scopes.specs.Types.{with_params}
 use Rattle.c_scopes.specs.Laws as scopes
 use Rattle.c_soundness.proofs.Checked.{breaks_none}
 use Rattle.canonical_nests.specs.Weight as weight
-use Rattle.canonical_nests.specs.LoopRules.BreachSets.{BreachSet, none, one, ◌&◌, HasNone, has_some, or_else}
+use Rattle.canonical_nests.specs.LoopRules.BreachSets.{HasNone, or_else}
 use Rattle.canonical_nests.specs.LoopRules.Accesses.{assigned_in, calls_in}
 use Rattle.canonical_nests.specs.LoopRules.Heads as heads
-use Rattle.canonical_nests.specs.LoopRules.Heads.{Changes, init_of, scope_below, round_with}
+use Rattle.canonical_nests.specs.LoopRules.Heads.{Changes, init_of, scope_below}
 use Rattle.canonical_nests.specs.LoopRules.Structure as structure
 use Rattle.canonical_nests.specs.LoopRules.Counts as counts
 use Rattle.canonical_nests.specs.LoopRules.Programs.{clause_breaches, stmt_breaches, stmts_breaches, breaches_from, nest_breaches, height_breaches, weight_breaches, first_directive}
@@ -30,38 +30,11 @@ use Rattle.carried_out.specs.CarriedOut.{loop_at, in_head}
 use Rattle.carried_out.specs.Reversible.{all_stay_in, is_reversal, is_reversible, are_reversible, is_nest, is_nest_in, are_reversible_items, is_reversible_program}
 use Rattle.carried_names.specs.BoundsApart.{HasBoundsApart, HaveBoundsApart, LeadsToBoundsApart, IsWithBoundsApart, ItemsHaveBoundsApart}
 use Rattle.carried_names.specs.Laws.{AdmittedHaveBoundsApart, AdmittedCarriedOutBreaksNone}
-use Rattle.carried_names.proofs.ReversalNeed.{asks_one}
+use Rattle.carried_out.proofs.LoopsAsked.{asks_one}
+use Rattle.carried_out.proofs.Tests.{left_true, right_true}
+use Rattle.carried_admitted.proofs.Tests.{neither_breaks}
 use Rattle.carried_names.proofs.BoundReads.{bounds_free}
-use Rattle.carried_names.proofs.Walk.{left_true, right_true}
 use Rattle.carried_names.proofs.Items as items
-
--- ---- tiers
-
-has_some_not : (xs : BreachSet) → HasNone xs → has_some xs ≡ false
-has_some_not none h = refl
-has_some_not (one x) h = absurd h
-has_some_not (xs & ys) h = ap (λ t. t || has_some ys) (has_some_not xs h.0) ∙ has_some_not ys h.1
-
--- where the first set with a breach has none, no set has one
-first_none : (xs ys : BreachSet) → HasNone (or_else xs ys) → HasNone xs × HasNone ys
-first_none xs ys h = by (has_some xs) refl h
-  where
-    empty_set : (zs : BreachSet) → has_some zs ≡ false → HasNone zs
-    empty_set none e = tt
-    empty_set (one x) e = both_ways true e refl
-    empty_set (us & vs) e = (empty_set us (left_false (has_some us) (has_some vs) e), empty_set vs (right_false (has_some us) (has_some vs) e))
-      where
-        left_false : (a b : Bool) → (a || b) ≡ false → a ≡ false
-        left_false true b e = e
-        left_false false b e = refl
-
-        right_false : (a b : Bool) → (a || b) ≡ false → b ≡ false
-        right_false true b e = absurd (both_ways true e refl)
-        right_false false b e = e
-
-    by : (t : Bool) → has_some xs ≡ t → HasNone (if t then xs else ys) → HasNone xs × HasNone ys
-    by true e h = absurd (both_ways (has_some xs) (has_some_not xs h) e)
-    by false e h = (empty_set xs e, h)
 
 -- ---- statements
 
@@ -86,9 +59,9 @@ module _ (ds : List Define) (fs : List FunctionAccess) where
     own_stmt u s (omp d a p) r h =
         let one = asks_one (plan_of ds (forget_directive d)) 0 (omega arith) (left_true (is_reversal (plan_of ds (forget_directive d))) _ r) in
         let k : Changes = record { assigned = assigned_in [] a; called = calls_in a } in
-        let tier1 = first_none (clause_breaches ds d a) _ h.0 in
-        let tier2 = first_none (structure.construct_breaches ds d a) _ tier1.1 in
-        let tier3 = first_none (heads.construct_breaches ds fs s d a) (counts.construct_breaches ds s d a) tier2.1 in
+        let tier1 = neither_breaks (clause_breaches ds d a) _ h.0 in
+        let tier2 = neither_breaks (structure.construct_breaches ds d a) _ tier1.1 in
+        let tier3 = neither_breaks (heads.construct_breaches ds fs s d a) (counts.construct_breaches ds s d a) tier2.1 in
         own_nest k u s s [] a (right_true (is_reversal (plan_of ds (forget_directive d))) _ r)
         (subst (λ m. HasNone (heads.stmts_breaches ds fs k s [] m a)) one tier3.0) (subst (λ m. HasNone (stmts_breaches ds fs s m a)) one h.1)
 
@@ -138,6 +111,6 @@ pub admitted_breaks_none : AdmittedCarriedOutBreaksNone
 admitted_breaks_none program admitted r =
     let p = placed_program program in
     let same = bare_program_is program in
-    let rules = first_none (nest_breaches p) (or_else (height_breaches (first_directive p) p) (weight_breaches (first_directive p) p)) admitted.no_breach in
+    let rules = neither_breaks (nest_breaches p) (or_else (height_breaches (first_directive p) p) (weight_breaches (first_directive p) p)) admitted.no_breach in
     let own = bounds_apart p rules.0 (subst (λ q. is_reversible_program q ≡ true) same r) in
     items.breaks_none (bare_program program) admitted.checked.well_formed (breaks_none program admitted.checked) r (subst (λ q. ItemsHaveBoundsApart [] q) (sym same) own)

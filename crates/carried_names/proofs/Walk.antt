@@ -1,5 +1,5 @@
 -- By the structure of statements: what is made of one breaks no name rule where the source breaks none.
-use Rattle.std.proofs.Common.{◌≡◌, refl, sym, ap, ◌∙◌, subst, ℕ, max, List, length, Option, Some, None, Bool, true, false, not, ◌&&◌, arith}
+use Rattle.std.proofs.Common.{◌≡◌, refl, sym, ap, ◌∙◌, subst, ℕ, max, List, length, Option, Some, None, Bool, true, false, not, arith}
 use Rattle.std.specs.Prelude.{bytes_eq, is_some, if◌then◌else◌}
 use Rattle.std.proofs.lemmas.Bool.{both_ways}
 use Rattle.c_tree.specs.Bare.{Name, Expr, Stmt, decl, set, step, print, input, if_, if_else, while_, do_, for_, block, break_, continue_, empty, omp, call, Stmts, no_stmts, more_stmts, Head, head, MaybeStmt, no_stmt, a_stmt}
@@ -25,6 +25,7 @@ use Rattle.loop_normal.specs.DrawnNames.{FreshNames, AreDigits}
 use Rattle.loop_normal.specs.Laws.{source_loop}
 use Rattle.carried_out.specs.CarriedOut.{Made, made_leaf, planned, variable_type, with_type, where_typed, loop_at, scope_below, in_head, carried, carried_all, nest, nest_in}
 use Rattle.carried_out.specs.Reversible.{all_stay_in, is_reversal, is_reversible, are_reversible, is_nest, is_nest_in}
+use Rattle.carried_out.proofs.Tests.{left_true, right_true}
 use Rattle.carried_names.specs.BoundsApart.{ApartIfDeclared, BoundsApart, HasBoundsApart, HaveBoundsApart, LeadsToBoundsApart, IsWithBoundsApart}
 use Rattle.carried_names.proofs.Fresh.{Source, Reached}
 use Rattle.carried_names.proofs.Declares.{Declares, DeclareAll, DeclaresIf}
@@ -32,14 +33,6 @@ use Rattle.carried_names.proofs.Scopes.{Under, Clean, Alike, Scalar, alike_self,
 use Rattle.carried_names.proofs.Uses.{expr_kept, exprs_kept, option_kept, target_kept, call_kept, others_kept, all_kept}
 use Rattle.carried_names.proofs.Generated.{Fine, MadeFine, LoopFine, leaf_fine, planned_fine, emitted_fine, free_none}
 use Rattle.carried_names.proofs.Heads.{HeadFine, HeadFineIf, head_fine, head_depth, end_declares_none}
-
-pub left_true : (a b : Bool) → (a && b) ≡ true → a ≡ true
-left_true true b h = refl
-left_true false b h = h
-
-pub right_true : (a b : Bool) → (a && b) ≡ true → b ≡ true
-right_true true b h = h
-right_true false b h = absurd (both_ways false refl h)
 
 max_right : (n : ℕ) → max n 0 ≡ n
 max_right n = omega arith

@@ -1,9 +1,8 @@
 use Rattle.std.proofs.Common.{◌≡◌, map, drop}
 use Rattle.canonical_nests.specs.LoopRules.PlacedPlans.{forget_items}
 use Rattle.canonical_nests.specs.Plans.{seen_item, gather}
-use Rattle.loop_normal.specs.Gens.{Gen}
 use Rattle.loop_normal.specs.GenOf.{bare_gen}
-use Rattle.carried_out.specs.CarriedOut.{Made, items_applied}
+use Rattle.carried_out.specs.CarriedOut.{items_applied}
 use Rattle.apply_rewrite.proofs.plans.+planned.Given as goal
 
 -- The items that are left make of the code so far what all make of that at the start.

@@ -5,7 +5,11 @@ use Rattle.std.proofs.lemmas.Bool.{both_ways, leb-true, le-leb}
 use Rattle.c_semantics.specs.Loops.Transformations.{tile, interchange, reverse_, split, fuse, unroll_full, unroll_partial, Plan, plan, Applied, none_applied, applied_at}
 use Rattle.c_semantics.specs.Loops.Need.{nested_depths, part_depths, below_depths, depths, applied_depths, if_some, serves, each_at_least, least_from, reach, loops_asked}
 use Rattle.carried_out.specs.Reversible.{is_reversal, are_reversals}
-use Rattle.carried_names.proofs.Walk.{left_true, right_true}
+use Rattle.carried_out.proofs.Tests.{left_true, right_true}
+
+-- an item stands on the outermost loop
+pub at_first : (p : ℕ) → nat_le p 1 ≡ true → p - 1 ≡ 0
+at_first p h = let l : p ≤ 1 = leb-true p 1 h in omega arith
 
 -- over one loop it gives one
 mutual
@@ -21,8 +25,7 @@ mutual
   items_depth : (w : Applied) → are_reversals w ≡ true → applied_depths reverse_ w (1 ∷ []) ≡ Some (1 ∷ [])
   items_depth none_applied h = refl
   items_depth (applied_at p d w) h =
-      let within : p ≤ 1 = leb-true p 1 (left_true (nat_le p 1) _ h) in
-      let none : p - 1 ≡ 0 = omega arith in
+      let none = at_first p (left_true (nat_le p 1) _ h) in
       let rest = right_true (nat_le p 1) _ h in
       let own = one_depth d (left_true (is_reversal d) _ rest) in
       ap (λ k. if_some (part_depths 0 (below_depths k (depths d)) (1 ∷ [])) (applied_depths reverse_ w)) none
