@@ -1,5 +1,5 @@
 -- The block of a stack of reverse directives does what the construct does.
-use Rattle.std.proofs.Common.{◌≡◌, refl, sym, ap, ◌∙◌, subst, ℕ, zero, suc, List, [], ◌∷◌, ◌++◌, length, Option, Some, None, Result, Ok, Err, Bool, true, false, ℤ, slice_get, arith, append-nil}
+use Rattle.std.proofs.Common.{◌≡◌, refl, sym, ap, ◌∙◌, subst, ℕ, zero, suc, List, [], ◌∷◌, ◌++◌, length, Option, Some, None, Result, Ok, Err, Bool, true, false, ℤ, slice_get, arith, append-nil, lit≤}
 use Rattle.std.specs.Prelude.{bytes_eq, if◌then◌else◌, unwrap_or}
 use Rattle.c_tree.specs.Bare.{Name, Expr, read, omp, Directive, Stmts, no_stmts, Head, head, MaybeStmt}
 use Rattle.c_tree.specs.declared.tree.Ty.{Ty}
@@ -36,9 +36,11 @@ use Rattle.permute_reverse.proofs.Reverse.{reverse_means}
 use Rattle.c_scopes.specs.Types.{type_held, HasTypes}
 use Rattle.carried_out.specs.CarriedOut.{variable_type}
 use Rattle.carried_out.specs.Reversible.{is_reversal}
+use Rattle.carried_out.proofs.LoopsAsked.{asks_one}
+use Rattle.carried_out.proofs.SpentNames.{Each}
 use Rattle.apply_rewrite.specs.ReverseStacks.{times_after, LeadsTo, loop_here, in_braces, in_directive, reversed_all, stack_block, all_names, IsStack}
 use Rattle.carried_out.specs.DistinctNames.{AllApart}
-use Rattle.apply_rewrite.proofs.Reversals.{stacked, trees_reversed, asks_for_one}
+use Rattle.apply_rewrite.proofs.Reversals.{stacked, trees_reversed}
 use Rattle.apply_rewrite.proofs.Breaks.{body_never}
 
 -- ---- names
@@ -53,11 +55,7 @@ among_there x y xs h = by (bytes_eq x y)
     by true = refl
     by false = h
 
-abbrev All : (Name → Type 0) → List Name → Type 0
-All Out [] = Unit {0}
-All Out (x ∷ xs) = Out x × All Out xs
-
-all_among : (ys xs : List Name) → ((x : Name) → Among xs x → Among ys x) → All (Among ys) xs
+all_among : (ys xs : List Name) → ((x : Name) → Among xs x → Among ys x) → Each (Among ys) xs
 all_among ys [] f = tt
 all_among ys (x ∷ xs) f = (f x (among_here x xs), all_among ys xs (λ z a. f z (among_there z x xs a)))
 
@@ -80,7 +78,7 @@ module _ (n : ℕ) (env : Env) (s : State) where
   nest_is k h a as' (loop_here g b) = both_nil _
   nest_is k h a as' (in_braces {k = j} {h = g} {a = b} {b = c} p) = both_nil _ ∙ nest_is j g b c p
   nest_is k h a as' (in_directive {k = j} {h = g} {a = b} {b = c} d r p) =
-      both_nil _ ∙ ap (λ i. and_then (nest_all apply_plan env.defines s 0 i c) (λ ts. Ok (apply_plan (plan_of env.defines d) ts))) (asks_for_one (plan_of env.defines d) r 1 refl)
+      both_nil _ ∙ ap (λ i. and_then (nest_all apply_plan env.defines s 0 i c) (λ ts. Ok (apply_plan (plan_of env.defines d) ts))) (asks_one (plan_of env.defines d) 1 (lit≤ tt) r)
       ∙ ap (λ x. and_then x (λ ts. Ok (apply_plan (plan_of env.defines d) ts))) (nest_is j g b c p) ∙ one_more (plan_of env.defines d) r j (enter env.defines s (canonical env.defines g))
 
   abbrev one_with : Option Canonical → Meaning → List Body
@@ -90,7 +88,7 @@ module _ (n : ℕ) (env : Env) (s : State) where
   bodies_are k h a as' (loop_here (head i e next) b) = refl
   bodies_are k h a as' (in_braces {k = j} {h = g} {a = b} {b = c} p) = append-nil _ ∙ bodies_are j g b c p
   bodies_are k h a as' (in_directive {k = j} {h = g} {a = b} {b = c} d r p) =
-      append-nil _ ∙ ap (λ i. bodies_all n env s [] i c) (asks_for_one (plan_of env.defines d) r 1 refl) ∙ bodies_are j g b c p
+      append-nil _ ∙ ap (λ i. bodies_all n env s [] i c) (asks_one (plan_of env.defines d) 1 (lit≤ tt) r) ∙ bodies_are j g b c p
 
 -- ---- the step of a canonical loop fits its test
 
@@ -150,7 +148,7 @@ module _ (n : ℕ) (env : Env) (bs : List Body) (Out : Name → Type 0) (calm : 
       (g.0, g.1, ((reverse_means n env bs Out calm r o no_stmts c b inner (g.0 ++ []) t tt none d3 g.2.0.0, tt), tt))
   reverse_step r c b inner s (Ok (t ∷ u ∷ ts)) o d0 d1 d2 d3 g = absurd g.2.1
 
-  stack_means : (rs : List Name) (c : Name) (b : Expr) (inner : Inner) (s : State) (R : Result (List Tree) Trap) → All Out rs → Apart m.begin rs → Apart m.end rs → Apart m.count rs → Apart c rs → AllApart rs →
+  stack_means : (rs : List Name) (c : Name) (b : Expr) (inner : Inner) (s : State) (R : Result (List Tree) Trap) → Each Out rs → Apart m.begin rs → Apart m.end rs → Apart m.count rs → Apart c rs → AllApart rs →
       GenMeans n env bs Out (gen_of c b inner) [] s R → GenMeans n env bs Out (reversed_all rs (gen_of c b inner)) [] s (and_then R (λ ts. Ok (stacked (length rs) ts)))
   stack_means [] c b inner s R o d0 d1 d2 d3 all g = subst (GenMeans n env bs Out (gen_of c b inner) [] s) (sym (ok_same R)) g
   stack_means (r ∷ rs) c b inner s R o d0 d1 d2 d3 all g =
@@ -196,7 +194,7 @@ module _ (n : ℕ) (env : Env) where
       exec n env (omp d as') s ≡ run_forest n (shown (times_after (plan_of ds d) k) (entry ds s c)) (one_body c.var T a) s
   construct_is d k h c T as' a s r leads form type_ =
       let p = plan_of ds d in
-      let one : loops_asked p 0 ≡ 1 = asks_for_one p r 0 refl in
+      let one : loops_asked p 0 ≡ 1 = asks_one p 0 (lit≤ tt) r in
       let trees = ap (λ i. and_then (nest_all apply_plan ds s 0 i as') (λ ts. Ok (apply_plan p ts))) one
       ∙ ap (λ x. and_then x (λ ts. Ok (apply_plan p ts))) (nest_is n env s k h a as' leads) ∙ one_more p r k (enter ds s (canonical ds h)) ∙ ap (λ o. shown (times_after p k) (enter ds s o)) form in
       let bodies = ap (λ i. bodies_all n env s [] i as') one ∙ bodies_are n env s k h a as' leads ∙ ap (λ o. one_with n env s o (exec_all n env a)) form

@@ -1,7 +1,8 @@
 -- The tall height of an admitted program is within the limit: by a rule where it has a directive, and elsewhere it is the
 -- height.
-use Rattle.std.proofs.Common.{◌≡◌, refl, sym, ap, ◌∙◌, subst, ◌≤◌, ◌<◌, ℕ, [], ◌∷◌, Option, Some, None, Bool, true, false, ◌||◌, arith}
-use Rattle.std.specs.Prelude.{nat_lt, if◌then◌else◌}
+use Rattle.std.proofs.Common.{◌≡◌, refl, sym, subst, ◌≤◌, ◌<◌, ℕ, [], ◌∷◌, Option, Some, None, Bool, true, false, arith}
+use Rattle.std.specs.Prelude.{nat_lt}
+use Rattle.std.specs.Option.{option_or}
 use Rattle.std.proofs.lemmas.Bool.{both_ways, lt-ltb, cases_lt}
 use Rattle.std.proofs.Common.{◌⊎◌, inl, inr}
 use Rattle.c_tree.specs.BareOf.{bare_program}
@@ -12,19 +13,20 @@ use Rattle.c_tree.specs.PlacedOf.{placed_program}
 use Rattle.c_tree.specs.Forget.{forget_expr, forget_head, forget_stmt, forget_stmts, forget_top, forget_program}
 use Rattle.c_tree.proofs.Forgotten.Programs.{bare_program_is}
 use Rattle.canonical_nests.specs.TallHeight.{tall_stmt, tall_stmts, tall_top, tall_height}
-use Rattle.canonical_nests.specs.LoopRules.BreachSets.{BreachSet, none, one, ◌&◌, HasNone, has_some, or_else, breach_if}
-use Rattle.canonical_nests.specs.LoopRules.Programs.{or_later, stmt_directive, stmts_directive, top_directive, first_directive, nest_breaches, height_breaches, weight_breaches}
+use Rattle.canonical_nests.specs.LoopRules.BreachSets.{BreachSet, HasNone, or_else, breach_if}
+use Rattle.canonical_nests.specs.LoopRules.Programs.{stmt_directive, stmts_directive, top_directive, first_directive, nest_breaches, height_breaches, weight_breaches}
 use Rattle.canonical_nests.specs.declared.rules.LoopRule.TheVariants.{L26}
+use Rattle.carried_admitted.proofs.Tests.{neither_breaks}
 use Rattle.carried_heights.specs.Laws.{AdmittedCarriedOutIsLow}
 use Rattle.carried_heights.proofs.Walk.{under_both, one_more, no_higher}
 
 -- ---- without a directive
 
-first_later : (o p : Option ℕ) → or_later o p ≡ None → o ≡ None
+first_later : (o p : Option ℕ) → option_or o p ≡ None → o ≡ None
 first_later None p h = refl
 first_later (Some k) p h = h
 
-second_later : (o p : Option ℕ) → or_later o p ≡ None → p ≡ None
+second_later : (o p : Option ℕ) → option_or o p ≡ None → p ≡ None
 second_later None p h = h
 second_later (Some k) p h = absurd (cc)
 
@@ -65,19 +67,6 @@ plain_low (i ∷ is) h = under_both _ _ _ _ (top_plain i (first_later _ _ h)) (p
 
 -- ---- by the rules
 
--- where the first set with a breach has none, the second has none, and the first isn't passed over for a breach
-second_none : (xs ys : BreachSet) → HasNone (or_else xs ys) → HasNone ys
-second_none xs ys h = by (has_some xs) refl h
-  where
-    has_some_not : (zs : BreachSet) → HasNone zs → has_some zs ≡ false
-    has_some_not none h = refl
-    has_some_not (one x) h = absurd h
-    has_some_not (us & vs) h = ap (λ t. t || has_some vs) (has_some_not us h.0) ∙ has_some_not vs h.1
-
-    by : (t : Bool) → has_some xs ≡ t → HasNone (if t then xs else ys) → HasNone ys
-    by true e h = absurd (both_ways (has_some xs) (has_some_not xs h) e)
-    by false e h = h
-
 -- a rule that isn't broken
 not_broken : (t : Bool) (at : ℕ) (ys : BreachSet) → HasNone (or_else (breach_if t L26 at) ys) → t ≡ false
 not_broken true at ys h = absurd h
@@ -98,7 +87,7 @@ admitted_low program admitted =
     let p = placed_program program in
     let o = first_directive p in
     let same = bare_program_is program in
-    let tall = tall_low p o refl (weight_breaches o p) (second_none (nest_breaches p) (or_else (height_breaches o p) (weight_breaches o p)) admitted.no_breach)
+    let tall = tall_low p o refl (weight_breaches o p) (neither_breaks (nest_breaches p) (or_else (height_breaches o p) (weight_breaches o p)) admitted.no_breach).1
     (subst (λ q. program_height q ≤ most_height) same admitted.checked.height) in
     let own : tall_height (bare_program program) ≤ most_height = subst (λ q. tall_height q ≤ most_height) (sym same) tall in
     let no_more = no_higher (bare_program program) in
