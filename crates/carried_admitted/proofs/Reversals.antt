@@ -1,5 +1,5 @@
 -- A directive that breaks no clause rule, and that is `reverse` with all its items, has a plan that only reverses.
-use Rattle.std.proofs.Common.{◌≡◌, refl, sym, ap, subst, ℕ, suc, ◌+◌, ◌-◌, ◌≤◌, List, [], ◌∷◌, map, length, Option, Some, None, Bool, true, false, arith}
+use Rattle.std.proofs.Common.{◌≡◌, refl, sym, ap, subst, ℕ, suc, ◌+◌, ◌≤◌, List, [], ◌∷◌, map, length, Option, Some, None, Bool, true, false, arith}
 use Rattle.std.specs.Prelude.{◌&&◌, ◌||◌, not, nat_le, nat_lt, if◌then◌else◌, bytes_eq, codes}
 use Rattle.std.proofs.lemmas.Bool.{leb-true, le-leb}
 use Rattle.std.proofs.lemmas.Bool.Decides.{nat_tests}
@@ -9,7 +9,7 @@ use Rattle.c_tree.specs.Placed.{Exprs, no_exprs, more_exprs, Directive, directiv
 use Rattle.c_tree.specs.Forget.{forget_expr, forget_exprs, forget_directive, forget_clauses, forget_items, forget_item}
 use Rattle.c_tree.specs.declared.tree.Kind.TheVariants.{Reverse}
 use Rattle.c_semantics.specs.Meaning.Expressions.{Define}
-use Rattle.c_semantics.specs.Loops.Transformations.{Plan, plan, Applied, none_applied, applied_at}
+use Rattle.c_semantics.specs.Loops.Transformations.{Plan, Applied, none_applied, applied_at}
 use Rattle.c_semantics.specs.Loops.Directives.{number, before, first_place, insert, plan_of, clauses_items, clause_items, put_items, put_item, sizes_in}
 use Rattle.canonical_nests.specs.LoopRules.BreachSets.{HasNone, breach_if}
 use Rattle.canonical_nests.specs.LoopRules.Clauses as rules
