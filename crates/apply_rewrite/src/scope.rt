@@ -98,12 +98,7 @@ impl Scope {
 
     /// A new innermost variable.
     #[tactic(auto, using(crate::proofs::Scopes::changes))]
-    pub(crate) fn declare(
-        &mut self,
-        alloc: Global,
-        name: &Name,
-        ty: Ty,
-    ) -> Result<(), AllocError>
+    pub(crate) fn declare(&mut self, alloc: Global, name: &Name, ty: Ty) -> Result<(), AllocError>
         ensures { OnOk result (self.new ≡ push name.now (scalar ty None) self.old) }
     {
         let name = name.copy(alloc)?;
@@ -176,10 +171,8 @@ impl Scope {
     {
         match item {
             Item::Global { ty, name, .. } => self.add_global(alloc, name, *ty),
-            Item::Define { .. }
-            | Item::Extern { .. }
-            | Item::Function { .. }
-            | Item::Main { .. } => Ok(()),
+            Item::Define { .. } | Item::Extern { .. } | Item::Function { .. } | Item::Main { .. } =>
+                Ok(()),
         }
     }
 }
