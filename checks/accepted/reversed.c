@@ -35,10 +35,11 @@ static void omp_t10(int omp_t1) { omp_t0 += omp_t1; }
 int main(void) {
     int omp_t2 = input();
     while (omp_t2 > 0) {
+        int omp_t3 = omp_t2;
 #pragma omp reverse
 #pragma omp reverse
 #pragma omp reverse
-        for (int omp_t9 = omp_t2; omp_t9 <= omp_t4; omp_t9 += 3) { omp_t10(omp_t9); do { omp_t2--; if (omp_t2 == 1) break; } while (omp_t2 > 2); }
+        for (int omp_t9 = omp_t3; omp_t9 <= omp_t4; omp_t9 += 3) { omp_t10(omp_t9); do { omp_t2--; if (omp_t2 == 1) break; } while (omp_t2 > 2); }
         print(omp_t0);
     }
 }

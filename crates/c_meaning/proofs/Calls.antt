@@ -1,6 +1,6 @@
 -- Calls: the function that a name means, found from the end, and the arguments one by one.
-use Rattle.std.proofs.Common.{◌≡◌, ◌∙◌, sym, ap, refl, subst, ℕ, ◌+◌, ◌-◌, ◌<◌, true, false, ◌≤◌, List, [], ◌∷◌, ◌++◌, length, map, take, drop, reverse, Option, Some, None, Result, Ok, Err, ℤ, arith}
-use Rattle.std.proofs.lemmas.List.{take_all, at_drop_more, drop_all, drop-drop, reverse-append}
+use Rattle.std.proofs.Common.{◌≡◌, ◌∙◌, sym, ap, refl, subst, ℕ, ◌+◌, ◌-◌, ◌<◌, true, false, ◌≤◌, List, [], ◌∷◌, length, map, take, drop, Option, Some, None, Result, Ok, Err, ℤ, arith}
+use Rattle.std.proofs.lemmas.List.{take_all, at_drop_more, drop_all, drop-drop}
 use Rattle.std.specs.Prelude.{slice_index_or, bytes_eq, if◌then◌else◌}
 use Rattle.c_tree.specs.Bare.{Name}
 use Rattle.resolved_names.specs.Numbered.{number_name, numbered_top, numbered_param, numbered_expr, numbered_exprs, numbered_stmts}
@@ -117,7 +117,4 @@ module _ (ds : List meaning.Define) (s : State) (ps : List Param) (es : List Exp
 pub arguments_done : (ds : List meaning.Define) (s : State) (ps : List Param) (es : List Expr) (i : ℕ) (vs : List Var) → length ps ≤ i → simple.arguments ds s (map numbered_param (drop i ps)) (numbered_exprs (drop i es)) vs ≡ Ok vs
 arguments_done ds s ps es i vs h = ap (λ qs. simple.arguments ds s (map numbered_param qs) (numbered_exprs (drop i es)) vs) (drop_all i ps h)
 
-pub frame_more : (vs : List Var) (v : Var) → reverse (vs ++ v ∷ []) ≡ v ∷ reverse vs
-frame_more vs v = reverse-append vs (v ∷ [])
-
-pub ruleset calls = (arguments_more, arguments_trap, arguments_done, frame_more)
+pub ruleset calls = (arguments_more, arguments_trap, arguments_done)

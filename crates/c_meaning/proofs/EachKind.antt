@@ -213,18 +213,26 @@ module _ (n : ℕ) (p : Program) where
       abbrev entered : List Var → Meaning
       entered vs = in_frame vs f.run
 
-      pub call_stops : (stop : Stop) → Stops stop (framed m) → Ran (exec n env (call x es)) m o m o (stopped_as stop)
-      call_stops (stop.Trap t) args = call_as (Some f) m o (Ok (Trapped t)) is (value_traps framed asks_framed entered m o t args)
-      call_stops stop.Memory args = ran_memory (exec n env (call x es)) m m o (stmt_grows n p (call x es))
+      stops : (stop : Stop) → Stops stop (framed m) → Ran (exec n env (call x es)) m o m o (stopped_as stop)
+      stops (stop.Trap t) args = call_as (Some f) m o (Ok (Trapped t)) is (value_traps framed asks_framed entered m o t args)
+      stops stop.Memory args = ran_memory (exec n env (call x es)) m m o (stmt_grows n p (call x es))
 
-      module _ (vs : List Var) (args : framed m ≡ Ok vs) (m0 m1 : State) (o1 : Sunk) (in_it : m0 ≡ with_frame vs m) where
-        entering : (r : Result End RunFault) (u : State) → Ran (in_frame vs f.run) m o u o1 r → Ran (exec n env (call x es)) m o u o1 r
-        entering r u ran = call_as (Some f) u o1 r is ((value_goes framed asks_framed entered m o vs args).follows u o1 r ran)
+      -- the call begins in this state too
+      module _ (begun : State) (same : begun ≡ m) where
+        pub call_stops : (stop : Stop) → Stops stop (framed begun) → Ran (exec n env (call x es)) m o begun o (stopped_as stop)
+        call_stops stop args = subst (λ u. Ran (exec n env (call x es)) m o u o (stopped_as stop)) (sym same) (stops stop (subst (λ u. Stops stop (framed u)) same args))
 
-        pub call_ends : (m2 : State) (caller : List Var) → m2 ≡ with_frame caller m1 → caller ≡ m.frame → (end end' : End) → end_of end' ≡ call_end (end_of end) → Ran f.run m0 o m1 o1 (Ok end) → Ran (exec n env (call x es)) m o m2 o1 (Ok end')
-        call_ends m2 caller back same end end' so ran =
-            entering (Ok end') m2 (subst (λ u. Ran (in_frame vs f.run) m o u o1 (Ok end')) (sym (back ∙ ap (λ c. with_frame c m1) same))
-            (frame_ends f.run vs m m1 o o1 end end' so (subst (λ u. Ran f.run u o m1 o1 (Ok end)) in_it ran)))
+        module _ (vs : List Var) (args : framed begun ≡ Ok vs) (m0 m1 : State) (o1 : Sunk) (entry : m0 ≡ with_frame vs begun) where
+          in_it : m0 ≡ with_frame vs m
+          in_it = entry ∙ ap (with_frame vs) same
 
-        pub call_fails : (x' : RunFault) → Ran f.run m0 o m1 o1 (Err x') → Ran (exec n env (call x es)) m o m1 o1 (Err x')
-        call_fails x' ran = entering (Err x') m1 (frame_fails f.run vs m m1 o o1 m1 x' (subst (λ u. Ran f.run u o m1 o1 (Err x')) in_it ran))
+          entering : (r : Result End RunFault) (u : State) → Ran (in_frame vs f.run) m o u o1 r → Ran (exec n env (call x es)) m o u o1 r
+          entering r u ran = call_as (Some f) u o1 r is ((value_goes framed asks_framed entered m o vs (subst (λ u. framed u ≡ Ok vs) same args)).follows u o1 r ran)
+
+          pub call_ends : (m2 : State) (caller : List Var) → m2 ≡ with_frame caller m1 → caller ≡ begun.frame → (end end' : End) → end_of end' ≡ call_end (end_of end) → Ran f.run m0 o m1 o1 (Ok end) → Ran (exec n env (call x es)) m o m2 o1 (Ok end')
+          call_ends m2 caller back was end end' so ran =
+              entering (Ok end') m2 (subst (λ u. Ran (in_frame vs f.run) m o u o1 (Ok end')) (sym (back ∙ ap (λ c. with_frame c m1) (was ∙ ap (λ (u : State). u.frame) same)))
+              (frame_ends f.run vs m m1 o o1 end end' so (subst (λ u. Ran f.run u o m1 o1 (Ok end)) in_it ran)))
+
+          pub call_fails : (x' : RunFault) → Ran f.run m0 o m1 o1 (Err x') → Ran (exec n env (call x es)) m o m1 o1 (Err x')
+          call_fails x' ran = entering (Err x') m1 (frame_fails f.run vs m m1 o o1 m1 x' (subst (λ u. Ran f.run u o m1 o1 (Err x')) in_it ran))

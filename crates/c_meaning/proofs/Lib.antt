@@ -1,13 +1,17 @@
 pub mod Assignments
 pub mod Calls
+pub mod FileVariables
+pub mod Frames
 pub mod Growth
 pub mod ChoiceParts
 pub mod EachKind
 pub mod InitialCells
 pub mod Items
+pub mod LastItems
 pub mod LineText
 pub mod Lists
 pub mod Nodes
+pub mod PlaceTables
 pub mod Places
 pub mod Products
 pub mod RunnableParts

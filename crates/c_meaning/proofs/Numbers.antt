@@ -9,5 +9,3 @@ and_true false = refl
 
 pub number_eq : (m n : ℕ) → bytes_eq (number_name m) (number_name n) ≡ nat_eq m n
 number_eq m n = and_true (nat_eq m n)
-
-pub ruleset same_number = (number_eq)

@@ -1,10 +1,14 @@
 pub mod Choices
+pub mod FileVariables
+pub mod Frames
 pub mod Functions
 pub mod Globals
 pub mod Held
 pub mod Ends
+pub mod LastItems
 pub mod Loops
 pub mod Machines
+pub mod PlaceTables
 pub mod Plain
 pub mod Runnable
 pub mod Running

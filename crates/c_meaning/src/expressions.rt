@@ -11,8 +11,9 @@ ghost use Rattle.c_meaning.specs.Scopes.{env_of};
 ghost use Rattle.c_meaning.specs.Values.{value_in};
 ghost use Rattle.c_meaning.specs.Variables.{FitFrom};
 
+use crate::defines::define_named;
 use crate::machine::Machine;
-use crate::scope::{Scope, define_named};
+use crate::scope::Scope;
 use c_tree::arithmetic::{Trap, apply_bin, apply_un, bin_type, common, convert, settled, un_type};
 use c_tree::constant::TypedValue;
 use c_tree::tree::{BinOp, Ty, UnOp};

@@ -10,9 +10,10 @@ ghost use Rattle.c_meaning.specs.Runnable.{RunnableTops};
 ghost use Rattle.c_meaning.specs.Scopes.{env_of};
 
 use crate::expressions::eval;
+use crate::frame::Frame;
 use crate::machine::Machine;
 use crate::scope::Scope;
-use crate::variable::{Cell, Variable};
+use crate::variable::Cell;
 use c_tree::arithmetic::{Trap, convert};
 use resolved_names::tree::{Expr, Item, Param, Stmt};
 use std::alloc::{AllocError, Global};
@@ -33,14 +34,15 @@ pub enum Stop {
     Memory,
 }
 
-/// The last function of a name among the items. Its body knows what stands before it.
+/// The last function of a name among the items, which is sought where the table tells. Its body knows what stands before
+/// it.
 #[tactic(auto, using(crate::proofs::Calls::functions))]
 pub fn function_named<'p>(scope: &Scope<'p>, name: usize) -> Option<Known<'p>>
     requires { RunnableTops (map numbered_top scope.now.items.now) }
     ensures found { IfSome result (λ f. IsKnown scope.now (number_name name) f) }
     ensures none { IfNone result (meaning.function_named (number_name name) (env_of scope.now).functions ≡ None) }
 {
-    let mut left = scope.items.len();
+    let mut left = scope.last.up_to_function(name).min(scope.items.len());
     'each: while left > 0 {
         left -= 1;
         if let Item::Function {
@@ -58,6 +60,7 @@ pub fn function_named<'p>(scope: &Scope<'p>, name: usize) -> Option<Known<'p>>
                     scope: Scope {
                         bound: scope.bound,
                         items: &scope.items[..left],
+                        last: scope.last,
                     },
                 });
             }
@@ -87,36 +90,32 @@ fn argument(
 }
 
 /// A parameter's variable becomes the innermost of a frame.
-fn push_argument(
-    frame: &mut Vec<Variable>,
-    param: &Param,
-    value: Option<i64>,
-) -> Result<(), AllocError>
-    ensures { OnOk result (frame.new.items ≡ frame.old.items ++ record { name = number_name param.now.name; cell = scalar param.now.ty value } ∷ []) }
+fn push_argument(frame: &mut Frame, param: &Param, value: Option<i64>) -> Result<(), AllocError>
+    ensures { OnOk result (frame.new ≡ record { name = number_name param.now.name; cell = scalar param.now.ty value } ∷ frame.old) }
 {
     let cell = Cell::Scalar {
         ty: param.ty,
         value,
     };
-    frame.push(Variable::new(param.name, cell))?;
-    Ok(())
+    frame.push(param.name, cell)
 }
 
-/// The frame that holds the arguments, which are evaluated from left to right (C11 6.5.2.2). A parameter without an
-/// argument is unset.
+/// A frame with the arguments, which are evaluated from left to right (C11 6.5.2.2). A parameter without an argument is
+/// unset.
 #[tactic(auto, using(crate::proofs::Calls::calls))]
 pub fn arguments(
     scope: &Scope,
     m: &Machine,
+    mut frame: Frame,
     params: &[Param],
     args: &[Expr],
-) -> Result<Vec<Variable>, Stop>
+) -> Result<Frame, Stop>
+    requires empty { frame ≡ [] }
     requires known { RunnableTops (map numbered_top scope.now.items.now) }
     requires well_formed { HeldExprs (numbered_exprs args.now) }
-    ensures frame { IfOk result (λ vs. meaning.arguments (env_of scope.now).defines m.now (map numbered_param params.now) (numbered_exprs args.now) [] ≡ Ok (reverse vs.items)) }
+    ensures frame { IfOk result (λ vs. meaning.arguments (env_of scope.now).defines m.now (map numbered_param params.now) (numbered_exprs args.now) [] ≡ Ok vs) }
     ensures trap { IfErr result (λ e. Stops e (meaning.arguments (env_of scope.now).defines m.now (map numbered_param params.now) (numbered_exprs args.now) [])) }
 {
-    let mut frame = Vec::new(m.alloc());
     'each: for (index, param) in params.iter().enumerate() {
         let value = match argument(scope, m, param, args, index) {
             Ok(value) => value,

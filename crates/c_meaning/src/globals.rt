@@ -14,9 +14,10 @@ ghost use Rattle.c_meaning.specs.Runnable.{RunnableTop, RunnableTops};
 ghost use Rattle.c_meaning.specs.Scopes.{env_of};
 ghost use Rattle.c_meaning.specs.Variables.{cell_of, FitFrom, IsCell};
 
+use crate::defines::define_named;
 use crate::expressions::eval;
 use crate::machine::Machine;
-use crate::scope::{Scope, define_named};
+use crate::scope::Scope;
 use crate::variable::Cell;
 use c_tree::tree::Ty;
 use resolved_names::tree::{Expr, ExprList, Item};

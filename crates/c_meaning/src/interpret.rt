@@ -8,12 +8,14 @@ ghost use Rattle.resolved_names.specs.Numbered.{numbered_top};
 ghost use Rattle.c_semantics.specs.Meaning.Programs as programs;
 ghost use Rattle.c_semantics.specs.Meaning.Programs.{outcome, turns_of};
 ghost use Rattle.c_meaning.specs.Ends.{finish_of};
+ghost use Rattle.c_meaning.specs.LastItems.{StandBefore};
 ghost use Rattle.c_meaning.specs.Plain.{is_plain};
 ghost use Rattle.c_meaning.specs.Runnable.{RunnableTops};
 ghost use Rattle.c_meaning.specs.Running.{Ran, lines_text, sunk};
 ghost use Rattle.c_meaning.specs.States.{counted};
 
 use crate::globals::begin;
+use crate::last_items::LastItems;
 use crate::machine::Machine;
 use crate::run::{End, Run, RunFault, finish};
 use crate::scope::Scope;
@@ -28,16 +30,19 @@ use std::alloc::Global;
 fn run_items<'p, K: Sink>(
     bound: u64,
     items: &'p [Item],
+    last: &'p LastItems,
     m: &mut Machine<'p>,
     out: &mut K,
 ) -> Result<End, RunFault>
-    requires { RunnableTops (map numbered_top items.now) }
+    requires runnable { RunnableTops (map numbered_top items.now) }
+    requires last { StandBefore last.now items.now }
     ensures { Ran (programs.run_items bound (map numbered_top items.now) programs.no_env) m.old (sunk (K.held out.old) (K.faults out.old)) m.new (sunk (K.held out.new) (K.faults out.new)) result }
 {
     'each: for (index, item) in items.iter().enumerate() {
         let scope = Scope {
             bound,
             items: &items[..index],
+            last,
         };
         if let Item::Main { body, .. } = item {
             return run_block(&scope, m, out, body);
@@ -55,10 +60,12 @@ fn run_numbered<'p, K: Sink>(
     alloc: Global,
     bound: u64,
     items: &'p [Item],
+    last: &'p LastItems,
     input: &'p [i64],
     out: &mut K,
 ) -> Result<Run, RunFault>
-    requires { RunnableTops (map numbered_top items.now) }
+    requires runnable { RunnableTops (map numbered_top items.now) }
+    requires last { StandBefore last.now items.now }
     ensures lines { OnOk result (Gains (K.held out.old) (K.held out.new) (lines_text (outcome bound (map numbered_top items.now) input.now).lines)) }
     ensures end { IfOk result (λ run. finish_of run.end ≡ (outcome bound (map numbered_top items.now) input.now).end) }
     ensures turns { IfOk result (λ run. run.turns ≡ counted (turns_of bound (map numbered_top items.now) input.now)) }
@@ -67,7 +74,7 @@ fn run_numbered<'p, K: Sink>(
     ensures faults { K.faults out.old ≤ K.faults out.new }
 {
     let mut m = Machine::new(alloc, input);
-    let end = run_items(bound, items, &mut m, out)?;
+    let end = run_items(bound, items, last, &mut m, out)?;
     Ok(Run {
         end: finish(end),
         turns: m.turns(),
@@ -95,9 +102,14 @@ pub fn interpret<K: Sink>(
     ensures failed { result ≡ Err RunFault.WriteFault → Rose (K.faults out.old) (K.faults out.new) }
     ensures faults { K.faults out.old ≤ K.faults out.new }
 {
-    let items = match resolve(alloc, checked.program().items.as_slice()) {
+    let numbered = match resolve(alloc, checked.program().items.as_slice()) {
         Ok(items) => items,
         Err(_) => return Err(RunFault::Memory),
     };
-    run_numbered(alloc, bound, items.as_slice(), input, out)
+    let items = numbered.as_slice();
+    let last = match LastItems::of(alloc, items) {
+        Ok(last) => last,
+        Err(_) => return Err(RunFault::Memory),
+    };
+    run_numbered(alloc, bound, items, &last, input, out)
 }

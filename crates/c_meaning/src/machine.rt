@@ -1,13 +1,15 @@
 //! The state of a run: what its variables hold, the input that is left, and the turns of `for` loops.
 
-ghost use Rattle.std.specs.Prelude.{◌≡◌, ◌+◌, ◌<◌, ◌++◌, ◌∷◌, [], IfSome, IfNone, OnOk, reverse, length};
+ghost use Rattle.std.specs.Prelude.{◌≡◌, ◌++◌, ◌∷◌, [], OnOk, length};
 ghost use Rattle.std.specs.Option.{option_copied};
 ghost use Rattle.c_semantics.specs.Meaning.State.{look, push, store, keep, with_frame, with_globals};
 ghost use Rattle.c_semantics.specs.Meaning.SimpleStatements.{changed, next_input, rest_of};
 ghost use Rattle.resolved_names.specs.Numbered.{number_name};
-ghost use Rattle.c_meaning.specs.Variables.{cell_of, cell_in, first_at, IsCell};
+ghost use Rattle.c_meaning.specs.Variables.{cell_of, cell_in, IsCell};
 ghost use Rattle.c_meaning.specs.States.{start, one_turn_more};
 
+use crate::file_variables::FileVariables;
+use crate::frame::Frame;
 use crate::variable::{Cell, Variable};
 use c_tree::arithmetic::Trap;
 use std::alloc::{AllocError, Global};
@@ -18,10 +20,11 @@ use std::mem;
 #[derive(Drop)]
 pub struct Machine<'p> {
     alloc: Global,
-    /// The variables of the running function, the innermost last.
-    frame: Vec<Variable>,
-    /// The file-scope variables, in their order.
-    globals: Vec<Variable>,
+    /// The variables of the running function.
+    frame: Frame,
+    /// Frames of calls that have ended, whose room later calls use.
+    spare: Vec<Frame>,
+    globals: FileVariables,
     input: &'p [i64],
     turns: u64,
 }
@@ -35,36 +38,6 @@ impl<'p> Model for Machine<'p> {
     ghost view = { state_of };
 }
 
-/// Where the last variable of a name stands.
-#[tactic(auto, using(crate::proofs::Variables::variables))]
-fn last_named(variables: &[Variable], name: usize) -> Option<usize>
-    ensures found { IfSome result (λ i. i + first_at (number_name name) (reverse variables.now) + 1 ≡ length variables.now) }
-    ensures none { IfNone result (first_at (number_name name) (reverse variables.now) ≡ length variables.now) }
-{
-    let mut left = variables.len();
-    'each: while left > 0 {
-        left -= 1;
-        if variables[left].is_named(name) {
-            return Some(left);
-        }
-    }
-    None
-}
-
-/// Where the first variable of a name stands.
-#[tactic(auto, using(crate::proofs::Variables::variables))]
-fn first_named(variables: &[Variable], name: usize) -> Option<usize>
-    ensures found { IfSome result (λ i. (i ≡ first_at (number_name name) variables.now) × (i < length variables.now)) }
-    ensures none { IfNone result (first_at (number_name name) variables.now ≡ length variables.now) }
-{
-    'each: for (index, variable) in variables.iter().enumerate() {
-        if variable.is_named(name) {
-            return Some(index);
-        }
-    }
-    None
-}
-
 impl<'p> Machine<'p> {
     /// No variable is there, and no turn was counted.
     pub fn new(alloc: Global, input: &'p [i64]) -> Machine<'p>
@@ -72,8 +45,9 @@ impl<'p> Machine<'p> {
     {
         Machine {
             alloc,
-            frame: Vec::new(alloc),
-            globals: Vec::new(alloc),
+            frame: Frame::new(alloc),
+            spare: Vec::new(alloc),
+            globals: FileVariables::new(alloc),
             input,
             turns: 0,
         }
@@ -84,45 +58,39 @@ impl<'p> Machine<'p> {
     pub fn look(&self, name: usize) -> Option<&Variable>
         ensures { cell_in (option_copied result) ≡ look self.now (number_name name) }
     {
-        match last_named(self.frame.as_slice(), name) {
-            Some(index) => Some(&self.frame[index]),
-            None => match first_named(self.globals.as_slice(), name) {
-                Some(index) => Some(&self.globals[index]),
-                None => None,
-            },
+        match self.frame.look(name) {
+            Some(variable) => Some(variable),
+            None => self.globals.look(name),
         }
     }
 
     /// Stores a number where the name's variable has that place.
-    #[tactic(auto, using(crate::proofs::Variables::places))]
     pub fn set(&mut self, name: usize, at: u64, number: i64)
         ensures { self.new ≡ store (number_name name) (changed (look self.old (number_name name)) at number) self.old }
     {
-        if let Some(index) = last_named(self.frame.as_slice(), name) {
-            self.frame[index].set(at, number);
-        } else if let Some(index) = first_named(self.globals.as_slice(), name) {
-            self.globals[index].set(at, number);
+        if self.frame.set(name, at, number) {
+            return;
         }
+        self.globals.set(name, at, number);
     }
 
-    /// A new innermost variable.
+    /// A new innermost variable of the frame. The only error is want of memory.
     pub fn push(&mut self, name: usize, cell: Cell) -> Result<(), AllocError>
         requires { IsCell cell }
         ensures { OnOk result (self.new ≡ push (number_name name) (cell_of cell) self.old) }
     {
-        self.frame.push(Variable::new(name, cell))?;
-        Ok(())
+        self.frame.push(name, cell)
     }
 
-    /// A new file-scope variable behind the others.
+    /// A new file-scope variable behind the others. The only error is want of memory.
     pub fn add_global(&mut self, name: usize, cell: Cell) -> Result<(), AllocError>
         requires { IsCell cell }
         ensures { OnOk result (self.new ≡ with_globals (self.old.globals ++ record { name = number_name name; cell = cell_of cell } ∷ []) self.old) }
     {
-        self.globals.push(Variable::new(name, cell))?;
-        Ok(())
+        self.globals.push(name, cell)
     }
 
+    /// Where memory comes from.
     pub fn alloc(&self) -> Global {
         self.alloc
     }
@@ -135,19 +103,40 @@ impl<'p> Machine<'p> {
     }
 
     /// Drops the innermost variables, down to so many.
-    #[tactic(auto, using(crate::proofs::Variables::kept))]
     pub fn keep(&mut self, len: usize)
         ensures { self.new ≡ with_frame (keep len self.old.frame) self.old }
     {
-        self.frame.truncate(len);
+        self.frame.keep(len);
     }
 
     /// Puts a frame in place of the running function's, whose variables it gives back.
-    pub fn swap_frame(&mut self, frame: Vec<Variable>) -> Vec<Variable>
-        ensures frame { self.new ≡ with_frame (reverse frame.items) self.old }
-        ensures was { reverse result.items ≡ self.old.frame }
+    pub fn swap_frame(&mut self, frame: Frame) -> Frame
+        ensures frame { self.new ≡ with_frame frame self.old }
+        ensures was { result ≡ self.old.frame }
     {
         mem::replace(&mut self.frame, frame)
+    }
+
+    /// A frame without variables: one that was put back, with its room, or a new one. No variable is changed.
+    #[tactic(auto, using(crate::proofs::Frames::kept))]
+    pub fn empty_frame(&mut self) -> Frame
+        ensures frame { result ≡ [] }
+        ensures same { self.new ≡ self.old }
+    {
+        match self.spare.pop() {
+            Some(mut frame) => {
+                frame.keep(0);
+                frame
+            }
+            None => Frame::new(self.alloc),
+        }
+    }
+
+    /// Takes back a frame that isn't needed any more. Where memory is wanting, it is dropped.
+    pub fn put_back(&mut self, frame: Frame)
+        ensures { self.new ≡ self.old }
+    {
+        let _ = self.spare.push(frame);
     }
 
     /// Takes the next number of the input: `InputEnd` exactly where none is left.
@@ -171,6 +160,7 @@ impl<'p> Machine<'p> {
         self.turns = self.turns.saturating_add(1);
     }
 
+    /// How many turns of `for` loops were counted.
     pub fn turns(&self) -> u64
         ensures { result ≡ self.now.turns }
     {

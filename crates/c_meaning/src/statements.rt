@@ -329,12 +329,14 @@ fn call<'p, K: Sink>(
     let Some(function) = function_named(scope, name) else {
         return Ok(End::Trapped(Trap::Unset));
     };
-    let frame = match arguments(scope, m, function.params, args.as_slice()) {
+    let empty = m.empty_frame();
+    let frame = match arguments(scope, m, empty, function.params, args.as_slice()) {
         Ok(frame) => frame,
         Err(stop) => return stopped(stop),
     };
     let caller = m.swap_frame(frame);
     let end = run_stmts(&function.scope, m, out, function.body)?;
-    m.swap_frame(caller);
+    let ended = m.swap_frame(caller);
+    m.put_back(ended);
     Ok(call_end(end))
 }

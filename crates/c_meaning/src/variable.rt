@@ -1,6 +1,6 @@
 //! A variable of a run, with what it holds.
 
-ghost use Rattle.std.specs.Prelude.{◌≡◌, ℕ, ◌<◌, Some, bytes_eq, slice_get};
+ghost use Rattle.std.specs.Prelude.{◌≡◌, ℕ, ◌<◌, Some, slice_get};
 ghost use Rattle.c_semantics.specs.Meaning.Expressions.{cell_type, dims_of, elements_of, or_unset};
 ghost use Rattle.c_semantics.specs.Meaning.SimpleStatements.{changed, old_value};
 ghost use Rattle.c_meaning.specs.Variables.{cell_of, number_of, IsCell, FitFrom};
@@ -44,6 +44,7 @@ impl Model for Variable {
 }
 
 impl Variable {
+    /// A variable with the number of its name.
     pub fn new(name: usize, cell: Cell) -> Variable
         requires { IsCell cell }
         ensures { result ≡ record { name = number_name name; cell = cell_of cell } }
@@ -51,14 +52,14 @@ impl Variable {
         Variable { name, cell }
     }
 
-    /// Whether this is the variable's name.
-    #[tactic(auto, using(crate::proofs::Numbers::same_number))]
-    pub fn is_named(&self, name: usize) -> bool
-        ensures { result ≡ bytes_eq (number_name name) self.now.name }
+    /// The number of its name.
+    pub fn name(&self) -> usize
+        ensures { number_name result ≡ self.now.name }
     {
-        name == self.name
+        self.name
     }
 
+    /// The type of its number or of its elements.
     pub fn ty(&self) -> Ty
         ensures { result ≡ cell_type self.now.cell }
     {

@@ -166,6 +166,20 @@ fn enter_part<'p>(
     }
 }
 
+/// What a well-formed directive asks of its body, by what is left of it without its places.
+#[tactic(auto, using(crate::proofs::Scopes::directives))]
+fn bare_loops_asked(
+    alloc: Global,
+    scope: &Scope,
+    directive: &Directive,
+    wanted: u64,
+) -> Result<u64, AllocError>
+    requires { WellFormedDirective (bare_directive directive.now) }
+    ensures { IfOk result (λ n. n ≡ need.loops_asked (directives.plan_of scope.now.defines (bare_directive directive.now)) wanted) }
+{
+    loops_asked_by(alloc, scope, directive, wanted)
+}
+
 /// A condition, and then statements.
 #[cycle(stmts_access)]
 fn tested<'p>(
@@ -292,7 +306,6 @@ fn stmt_access<'p>(
 }
 
 /// The loops that a directive asks for.
-#[tactic(auto, using(crate::proofs::Scopes::directives))]
 #[cycle(stmts_access)]
 fn construct_access<'p>(
     at: Known,
@@ -306,7 +319,7 @@ fn construct_access<'p>(
     ensures access { OnOk result (Gains into.old (files.nests_accesses at.entry.scope.now.defines at.entry.functions.now names.old names.old (need.loops_asked (directives.plan_of at.entry.scope.now.defines (bare_directive directive.now)) 0) (bare_stmts body.now)) into.new) }
     ensures names { OnOk result (names.new ≡ names.old) }
 {
-    let asked = loops_asked_by(at.alloc, at.scope, directive, 0)?;
+    let asked = bare_loops_asked(at.alloc, at.scope, directive, 0)?;
     let len = names.len();
     nests_access(at, names, into, body, len, asked)?;
     Ok(())
@@ -395,7 +408,6 @@ fn for_access<'p>(
 
 /// A statement of which a directive round it wants so many loops, one at least. The bounds of its loops can see what the
 /// earliest names don't hide.
-#[tactic(auto, using(crate::proofs::Scopes::directives))]
 #[cycle(stmts_access)]
 fn nest_access<'p>(
     at: Known,
@@ -421,7 +433,7 @@ fn nest_access<'p>(
             body,
             ..
         } => {
-            let asked = loops_asked_by(at.alloc, at.scope, directive, wanted)?;
+            let asked = bare_loops_asked(at.alloc, at.scope, directive, wanted)?;
             nests_access(at, names, into, body.as_slice(), len, asked)?;
             Ok(())
         }

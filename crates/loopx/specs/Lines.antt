@@ -9,8 +9,10 @@ use Rattle.c_lexer.specs.declared.token.LexKind.{LexKind}
 use Rattle.c_lexer.specs.declared.token.LexKind.TheVariants.{BadByte, OpenComment, BadNumber, SplitToken}
 use Rattle.pragma_grammar.specs.declared.phrase.ParseKind.{ParseKind}
 use Rattle.pragma_grammar.specs.declared.phrase.ParseKind.TheVariants.{Syntax, Outside, TooDeep}
+use Rattle.canonical_nests.specs.declared.rules.LoopRule.{LoopRule}
+use Rattle.canonical_nests.specs.declared.rules.LoopRule.TheVariants.{L1, L2, L3, L4, L5, L6, L7, L8, L9, L10, L11, L12, L13, L14, L15, L16, L17, L18, L19, L20, L21, L22, L23, L24, L25, L26, L27, L28}
 use Rattle.translator.specs.declared.refusal.Refusal.{Refusal}
-use Rattle.translator.specs.declared.refusal.Refusal.TheVariants.{Lex, Parse, Names, NotBuilt, Memory}
+use Rattle.translator.specs.declared.refusal.Refusal.TheVariants.{Lex, Parse, Names, Loops, NotBuilt, Memory}
 
 abbrev pub lexical_text : LexKind → List ℕ
 lexical_text BadByte = codes "BadByte byte not allowed here"
@@ -37,10 +39,41 @@ name_text N10 = codes "N10 function name misused"
 name_text N11 = codes "N11 wrong number of arguments"
 name_text N12 = codes "N12 calls nested too deeply"
 
+abbrev pub loop_text : LoopRule → List ℕ
+loop_text L1 = codes "L1 not a loop"
+loop_text L2 = codes "L2 init is not canonical"
+loop_text L3 = codes "L3 test is not canonical"
+loop_text L4 = codes "L4 increment is not canonical"
+loop_text L5 = codes "L5 loop variable changed"
+loop_text L6 = codes "L6 bound is not invariant"
+loop_text L7 = codes "L7 too few perfectly nested loops"
+loop_text L8 = codes "L8 bounds depend on another affected loop"
+loop_text L9 = codes "L9 break leaves an affected loop"
+loop_text L10 = codes "L10 size is not a positive constant"
+loop_text L11 = codes "L11 clause is missing"
+loop_text L12 = codes "L12 clause repeated or excluded"
+loop_text L13 = codes "L13 clause does not belong here"
+loop_text L14 = codes "L14 not a permutation"
+loop_text L15 = codes "L15 factor is not a positive constant"
+loop_text L16 = codes "L16 full without a constant count"
+loop_text L17 = codes "L17 omp_fill must stand once"
+loop_text L18 = codes "L18 count is not a constant of at least 0"
+loop_text L19 = codes "L19 range outside the sequence"
+loop_text L20 = codes "L20 sequence member is not a loop"
+loop_text L21 = codes "L21 more than one loop"
+loop_text L22 = codes "L22 no loop left"
+loop_text L23 = codes "L23 wrong apply modifier or item"
+loop_text L24 = codes "L24 more items than loops"
+loop_text L25 = codes "L25 bad apply index"
+loop_text L26 = codes "L26 result too deep"
+loop_text L27 = codes "L27 result too large"
+loop_text L28 = codes "L28 function not allowed here"
+
 abbrev pub refusal_text : Refusal → List ℕ
 refusal_text (Lex kind place) = lexical_text kind
 refusal_text (Parse kind place) = syntax_text kind
 refusal_text (Names rule place) = name_text rule
+refusal_text (Loops rule place) = loop_text rule
 refusal_text (NotBuilt place) = codes "NotBuilt not built yet"
 refusal_text Memory = []
 
@@ -48,6 +81,7 @@ abbrev pub refusal_place : Refusal → ℕ
 refusal_place (Lex kind place) = place
 refusal_place (Parse kind place) = place
 refusal_place (Names rule place) = place
+refusal_place (Loops rule place) = place
 refusal_place (NotBuilt place) = place
 refusal_place Memory = 0
 

@@ -2,11 +2,12 @@
 
 ghost use Rattle.std.specs.Prelude.{◌≡◌, ℕ, List, IfOk};
 ghost use Rattle.c_lexer.specs.Lines.{MapsLines};
-ghost use Rattle.loopx.specs.Lines.{lexical_text, syntax_text, name_text, refusal_text, refusal_place, position_line, refusal_line, trap_line};
+ghost use Rattle.loopx.specs.Lines.{lexical_text, syntax_text, name_text, loop_text, refusal_text, refusal_place, position_line, refusal_line, trap_line};
 
 use c_lexer::token::LexKind;
 use c_tree::arithmetic::Trap;
 use c_tree::name_rule::NameRule;
+use canonical_nests::rules::LoopRule;
 use itoa::Buffer;
 use pragma_grammar::phrase::ParseKind;
 use std::alloc::{AllocError, Global};
@@ -53,6 +54,41 @@ fn name(rule: NameRule) -> &'static [u8]
     }
 }
 
+fn loops(rule: LoopRule) -> &'static [u8]
+    ensures { result.now ≡ loop_text rule }
+{
+    match rule {
+        LoopRule::L1 => b"L1 not a loop",
+        LoopRule::L2 => b"L2 init is not canonical",
+        LoopRule::L3 => b"L3 test is not canonical",
+        LoopRule::L4 => b"L4 increment is not canonical",
+        LoopRule::L5 => b"L5 loop variable changed",
+        LoopRule::L6 => b"L6 bound is not invariant",
+        LoopRule::L7 => b"L7 too few perfectly nested loops",
+        LoopRule::L8 => b"L8 bounds depend on another affected loop",
+        LoopRule::L9 => b"L9 break leaves an affected loop",
+        LoopRule::L10 => b"L10 size is not a positive constant",
+        LoopRule::L11 => b"L11 clause is missing",
+        LoopRule::L12 => b"L12 clause repeated or excluded",
+        LoopRule::L13 => b"L13 clause does not belong here",
+        LoopRule::L14 => b"L14 not a permutation",
+        LoopRule::L15 => b"L15 factor is not a positive constant",
+        LoopRule::L16 => b"L16 full without a constant count",
+        LoopRule::L17 => b"L17 omp_fill must stand once",
+        LoopRule::L18 => b"L18 count is not a constant of at least 0",
+        LoopRule::L19 => b"L19 range outside the sequence",
+        LoopRule::L20 => b"L20 sequence member is not a loop",
+        LoopRule::L21 => b"L21 more than one loop",
+        LoopRule::L22 => b"L22 no loop left",
+        LoopRule::L23 => b"L23 wrong apply modifier or item",
+        LoopRule::L24 => b"L24 more items than loops",
+        LoopRule::L25 => b"L25 bad apply index",
+        LoopRule::L26 => b"L26 result too deep",
+        LoopRule::L27 => b"L27 result too large",
+        LoopRule::L28 => b"L28 function not allowed here",
+    }
+}
+
 /// The code and the text of a refusal, and its place. Want of memory has neither.
 fn said(refusal: Refusal) -> (&'static [u8], u64)
     ensures { (result.0.now ≡ refusal_text refusal) × (result.1 ≡ refusal_place refusal) }
@@ -61,6 +97,7 @@ fn said(refusal: Refusal) -> (&'static [u8], u64)
         Refusal::Lex(kind, place) => (lexical(kind), place),
         Refusal::Parse(kind, place) => (syntax(kind), place),
         Refusal::Names(rule, place) => (name(rule), place),
+        Refusal::Loops(rule, place) => (loops(rule), place),
         Refusal::NotBuilt(place) => (b"NotBuilt not built yet", place),
         Refusal::Memory => (b"", 0),
     }

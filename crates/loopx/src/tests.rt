@@ -4,6 +4,12 @@ ghost use Rattle.std.specs.Prelude.{◌≤◌};
 
 mod declared_names;
 mod depths;
+mod loop_rules;
+mod loop_rules_in_order;
+mod loop_rules_of_clauses;
+mod loop_rules_of_counts;
+mod loop_rules_of_heads;
+mod loop_rules_of_structure;
 mod name_rules;
 mod printed_forms;
 mod refusals;

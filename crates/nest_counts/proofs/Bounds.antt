@@ -1,6 +1,7 @@
 -- Where no rule of heads is broken, no bound reads what may change.
 use Rattle.std.proofs.Common.{◌≡◌, refl, ℕ, zero, suc, List, [], ◌∷◌, Option, Some, None, Bool, true, false}
 use Rattle.std.specs.Prelude.{is_some, ◌&&◌, ◌||◌, if◌then◌else◌, bytes_eq}
+use Rattle.std.proofs.lemmas.Bool.{or_parts}
 use Rattle.c_tree.specs.Bare.{Name}
 use Rattle.c_tree.specs.Placed.{Stmt, for_, block, omp, Stmts, no_stmts, more_stmts, Head}
 use Rattle.c_tree.specs.Forget.{forget_head, forget_directive}
@@ -17,24 +18,17 @@ use Rattle.canonical_nests.specs.LoopRules.Heads as heads
 use Rattle.canonical_nests.specs.LoopRules.Heads.{Changes, is_file_variable, some_may_assign, is_changed, read_breaches, bound_reads, scope_below, init_of, round_with, loop_breaches}
 use Rattle.nest_counts.specs.Bounds.{IsInvariant, EachInvariant, BoundsOf, StmtBounds, StmtsBounds}
 use Rattle.nest_counts.specs.Laws.{BoundsAreInvariant}
-
-or_false : (a b : Bool) → (a || b) ≡ false → (a ≡ false) × (b ≡ false)
-or_false true b h = absurd (cc)
-or_false false b h = (refl, h)
+use Rattle.nest_counts.proofs.Tests.{none_if}
 
 not_both : (a b : Bool) → (a && b) ≡ false → a ≡ true → b ≡ false
 not_both true b h e = h
 not_both false b h e = absurd (cc)
 
-none_if : (b : Bool) (at : ℕ) → HasNone (breach_if b L6 at) → b ≡ false
-none_if true at h = absurd h
-none_if false at h = refl
-
 -- no breach of a name says that neither of three tests holds
 name_tests : (a b c : Bool) (at : ℕ) → HasNone (if a then breach L6 at else if b then breach L8 at else breach_if c L6 at) → (b ≡ false) × (c ≡ false)
 name_tests true b c at h = absurd h
 name_tests false true c at h = absurd h
-name_tests false false c at h = (refl, none_if c at h)
+name_tests false false c at h = (refl, none_if c L6 at h)
 
 module _ (ds : List Define) (fs : List FunctionAccess) (k : Changes) where
   each_invariant : (s : State) (round : List Name) (c : Canonical) (ns : List PlacedName) → HasNone (read_breaches fs s k round c ns) → EachInvariant fs s k round c.var ns
@@ -43,8 +37,8 @@ module _ (ds : List Define) (fs : List FunctionAccess) (k : Changes) where
     where
       one : (has_name round n.name ≡ false) × ((bytes_eq c.var n.name || is_changed fs s k n.name) ≡ false) → IsInvariant fs s k round c.var n.name
       one t =
-          let own = or_false (bytes_eq c.var n.name) (is_changed fs s k n.name) t.1 in
-          let changed = or_false (are_named k.assigned n.name) (is_file_variable s n.name && some_may_assign fs k.called n.name) own.1 in
+          let own = or_parts (bytes_eq c.var n.name) (is_changed fs s k n.name) t.1 in
+          let changed = or_parts (are_named k.assigned n.name) (is_file_variable s n.name && some_may_assign fs k.called n.name) own.1 in
           record {
             not_own = own.0;
             not_round = t.0;

@@ -1,7 +1,7 @@
 -- The rules of structure and of counts say that each directive finds what it takes.
 use Rattle.std.proofs.Common.{◌≡◌, refl, sym, ap, ◌∙◌, subst, ℕ, zero, suc, ◌+◌, ◌-◌, ◌<◌, ◌≤◌, List, [], ◌∷◌, ◌++◌, map, length, take, drop, Option, Some, None, Bool, true, false, get_or, arith, length-append, length-drop}
-use Rattle.std.specs.Prelude.{replicate, ◌&&◌, nat_le, if◌then◌else◌}
-use Rattle.std.proofs.lemmas.Bool.{leb-true}
+use Rattle.std.specs.Prelude.{replicate, nat_le, if◌then◌else◌}
+use Rattle.std.proofs.lemmas.Bool.{leb-true, and_parts}
 use Rattle.c_semantics.specs.Loops.Transformations.{Transformation, tile, interchange, reverse_, split, fuse, unroll_full, unroll_partial}
 use Rattle.c_semantics.specs.Loops.Need.{takes, transformed_depths, all_at_least, if_some, nested_depths, part_depths, below_depths, position_depths, depths, applied_depths}
 use Rattle.c_semantics.specs.Structure.Parts.{split_counts}
@@ -9,7 +9,7 @@ use Rattle.canonical_nests.specs.declared.nest.CountKind.{CountKind}
 use Rattle.canonical_nests.specs.Kinds as kinds
 use Rattle.canonical_nests.specs.Kinds.{Part, no_part, moved, settled, position_up_to, positions_below, kind_at, known_count, same_kind, split_kinds, part_kinds, transformed_kinds, fused_kind, as_one_part, plan_kinds, applied_kinds, outermost}
 use Rattle.canonical_nests.specs.Weight.{loops_round, part_of_position}
-use Rattle.canonical_nests.specs.LoopRules.BreachSets.{HasNone, breach_if}
+use Rattle.canonical_nests.specs.LoopRules.BreachSets.{HasNone}
 use Rattle.canonical_nests.specs.LoopRules.PlacedPlans.{PlacedPlan, PlacedItems, plan, none_applied, applied_at, forget_plan, forget_items}
 use Rattle.canonical_nests.specs.LoopRules.Counts as counts
 use Rattle.canonical_nests.specs.LoopRules.Counts.{depend_on_another}
@@ -22,6 +22,7 @@ use Rattle.nest_counts.proofs.TilePlaces.{length_grids, length_tiles}
 use Rattle.nest_counts.proofs.InterchangePart.{length_order}
 use Rattle.nest_counts.proofs.SplitParts.{length_counts}
 use Rattle.nest_counts.proofs.Tile.{get_drop}
+use Rattle.nest_counts.proofs.Tests.{none_if}
 
 -- ---- lengths of parts
 
@@ -55,13 +56,9 @@ first_reach : (k : ℕ) (ps : List Part) → 0 < length ps → AllReach k ps →
 first_reach k [] l h = absurd (omega arith)
 first_reach k (p ∷ ps) l h = h.0
 
-and_left : (a b : Bool) → (a && b) ≡ true → a ≡ true
-and_left true b h = refl
-and_left false b h = absurd (cc)
-
 first_least : (d k : ℕ) (ps : List Part) → 0 < length ps → all_at_least d (lengths_below k ps) ≡ true → d ≤ length (get_or ps 0 no_part) - k
 first_least d k [] l h = absurd (omega arith)
-first_least d k (p ∷ ps) l h = leb-true d (length p - k) (and_left (nat_le d (length p - k)) (all_at_least d (lengths_below k ps)) h)
+first_least d k (p ∷ ps) l h = leb-true d (length p - k) (and_parts (nat_le d (length p - k)) (all_at_least d (lengths_below k ps)) h).0
 
 -- ---- each transformation
 
@@ -164,7 +161,7 @@ transformed_reaches (unroll_partial s) k ps f r =
 
 -- ---- items
 
-some_then : (o : Option (List ℕ)) (f : List ℕ → Option (List ℕ)) (es : List ℕ) → if_some o f ≡ Some es → (ds : List ℕ) × ((o ≡ Some ds) × (f ds ≡ Some es))
+pub some_then : (o : Option (List ℕ)) (f : List ℕ → Option (List ℕ)) (es : List ℕ) → if_some o f ≡ Some es → (ds : List ℕ) × ((o ≡ Some ds) × (f ds ≡ Some es))
 some_then None f es e = absurd (cc)
 some_then (Some ds) f es e = (ds, (refl, e))
 
@@ -273,10 +270,6 @@ first_of_position (unroll_partial s) p ps = refl
 
 -- ---- breaches
 
-none_of : (b : Bool) (at : ℕ) → HasNone (breach_if b L8 at) → b ≡ false
-none_of true at h = absurd h
-none_of false at h = refl
-
 -- only the first part counts
 of_first : (d : PlacedPlan) (k : ℕ) (qs : List Part) (X : Part) → IsNoFuse (forget_plan d) → get_or qs 0 no_part ≡ X → HasNone (counts.plan_breaches d k qs) → HasNone (counts.plan_breaches d k (X ∷ []))
 of_first (plan (tile ss) at w) k qs X n e h = subst (λ Y. HasNone (counts.plan_breaches (plan (tile ss) at w) k (Y ∷ []))) e h
@@ -296,11 +289,11 @@ parts_found : (c : Transformation) (at k : ℕ) (ps : List Part) → ArgumentFit
 parts_found (tile ss) at k ps fit some may r least none =
     let a : length ss ≤ length (get_or ps 0 no_part) - k = first_least (length ss) k ps some least in
     let b : k ≤ length (get_or ps 0 no_part) = first_reach k ps some r in
-    (some, (fit, omega arith, none_of (depend_on_another k (length ss) (get_or ps 0 no_part)) at none))
+    (some, (fit, omega arith, none_if (depend_on_another k (length ss) (get_or ps 0 no_part)) L8 at none))
 parts_found (interchange qs) at k ps fit some may r least none =
     let a : length qs ≤ length (get_or ps 0 no_part) - k = first_least (length qs) k ps some least in
     let b : k ≤ length (get_or ps 0 no_part) = first_reach k ps some r in
-    (some, (fit, omega arith, none_of (depend_on_another k (length qs) (get_or ps 0 no_part)) at none))
+    (some, (fit, omega arith, none_if (depend_on_another k (length qs) (get_or ps 0 no_part)) L8 at none))
 parts_found (fuse x) at k ps fit some may r least none = may
 parts_found reverse_ at k ps fit some may r least none = let a : 1 ≤ length (get_or ps 0 no_part) - k = first_least 1 k ps some least in (some, omega arith)
 parts_found (split cs) at k ps fit some may r least none = let a : 1 ≤ length (get_or ps 0 no_part) - k = first_least 1 k ps some least in (some, omega arith)
@@ -323,7 +316,7 @@ items_may : (d : PlacedPlan) (k : ℕ) → IsNoFuse (forget_plan d) → MayStand
 items_may (plan c at w) k n = item_may c at k w n
 
 -- a directive that finds enough loops
-enough_loops : (c : Transformation) (ds : List ℕ) (o : Option (List ℕ)) (es : List ℕ) → (if all_at_least (takes c) ds then o else None) ≡ Some es → (all_at_least (takes c) ds ≡ true) × (o ≡ Some es)
+pub enough_loops : (c : Transformation) (ds : List ℕ) (o : Option (List ℕ)) (es : List ℕ) → (if all_at_least (takes c) ds then o else None) ≡ Some es → (all_at_least (takes c) ds ≡ true) × (o ≡ Some es)
 enough_loops c ds o es e = by (all_at_least (takes c) ds) refl e
   where
     by : (b : Bool) → all_at_least (takes c) ds ≡ b → (if b then o else None) ≡ Some es → (all_at_least (takes c) ds ≡ true) × (o ≡ Some es)
@@ -331,7 +324,7 @@ enough_loops c ds o es e = by (all_at_least (takes c) ds) refl e
     by false d e = absurd (cc)
 
 mutual
-  plan_found : (p : PlacedPlan) (k : ℕ) (ps : List Part) (es : List ℕ) → ArgumentsFit (forget_plan p) → 0 < length ps → MayStandAt p k → AllReach k ps → depths (forget_plan p) (lengths_below k ps) ≡ Some es
+  pub plan_found : (p : PlacedPlan) (k : ℕ) (ps : List Part) (es : List ℕ) → ArgumentsFit (forget_plan p) → 0 < length ps → MayStandAt p k → AllReach k ps → depths (forget_plan p) (lengths_below k ps) ≡ Some es
       → HasNone (counts.plan_breaches p k ps) → Finds (forget_plan p) k ps × Reaches k es (plan_kinds (forget_plan p) k ps)
   plan_found (plan c at w) k ps es fit some may r e none =
       let q = enough_loops c (lengths_below k ps) (applied_depths c (forget_items w) (transformed_depths c (lengths_below k ps))) es e in

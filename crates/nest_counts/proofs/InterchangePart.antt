@@ -1,6 +1,6 @@
 -- An interchanged nest has the kinds that interchanging makes of its part's.
 use Rattle.std.proofs.Common.{◌≡◌, refl, sym, ap, ◌∙◌, subst, ℕ, zero, suc, ◌+◌, ◌-◌, ◌<◌, ◌≤◌, List, [], ◌∷◌, ◌++◌, map, length, take, drop, Option, Some, None, Bool, true, false, ◌⊎◌, inl, inr, get_or, arith, length-append, length-drop}
-use Rattle.std.specs.Prelude.{◌==◌, nat_le, flat_map, if◌then◌else◌}
+use Rattle.std.specs.Prelude.{◌||◌, ◌==◌, nat_le, flat_map, if◌then◌else◌}
 use Rattle.std.proofs.lemmas.Bool.{eqb-true, leb-true, leb-false}
 use Rattle.c_semantics.specs.Loops.IterationTrees.{Tree, loop, no_trees, members, width, widths, pick, build, at_depth}
 use Rattle.c_semantics.specs.Loops.Transformations.{interchange, place_of, any_zero, interchanged}
@@ -10,7 +10,8 @@ use Rattle.canonical_nests.specs.declared.nest.CountKind.TheVariants.{Known, Ent
 use Rattle.canonical_nests.specs.Kinds as kinds
 use Rattle.canonical_nests.specs.Kinds.{Part, depends_on, moved, known_count, settled, kind_at, positions_below, on_positions, first_known, outermost}
 use Rattle.canonical_nests.specs.LoopRules.Counts.{depend_on_another}
-use Rattle.nest_counts.specs.HasKinds.{is_among, flags, IsLoop, turns, child, EachBelow, Related, SameTurns, HasCount, HasKinds}
+use Rattle.canonical_nests.specs.LoopRules.Clauses.{is_in}
+use Rattle.nest_counts.specs.HasKinds.{flags, IsLoop, turns, child, EachBelow, Related, SameTurns, HasCount, HasKinds}
 use Rattle.nest_counts.specs.Plans.{IsOrder}
 use Rattle.nest_counts.proofs.Ways.{none_flagged, each_both, each_below, each_above_below, free_of_each, each_of_free, related_split, related_join}
 use Rattle.nest_counts.proofs.Built.{length_members, members_same, turns_loop, even_width, width_related}
@@ -28,7 +29,7 @@ module _ (k : ℕ) (ps : List ℕ) (order : IsOrder ps) where
   order_low p l r = by (nat_le r k) refl (nat_le (r - k) (length ps)) refl
     where
       by : (b : Bool) → nat_le r k ≡ b → (c : Bool) → nat_le (r - k) (length ps) ≡ c
-          → is_among p (if b then r ∷ [] else map (λ q. k + q) (if c then (place_of (r - k) ps + 1) ∷ [] else (r - k) ∷ [])) ≡ (p == r)
+          → is_in p (if b then r ∷ [] else map (λ q. k + q) (if c then (place_of (r - k) ps + 1) ∷ [] else (r - k) ∷ [])) ≡ (p == r)
       by true e c d = one_of p r p r (λ s. s) (λ s. s)
       by false e true d =
           let far : k < r = leb-false r k e in
@@ -50,7 +51,7 @@ module _ (k : ℕ) (ps : List ℕ) (order : IsOrder ps) where
       high = w.1
 
       by : (b : Bool) → nat_le r k ≡ b → (c : Bool) → nat_le (r - k) (length ps) ≡ c
-          → is_among (suc (k + j)) (if b then r ∷ [] else map (λ q. k + q) (if c then (place_of (r - k) ps + 1) ∷ [] else (r - k) ∷ [])) ≡ ((k + get_or ps j 0) == r)
+          → is_in (suc (k + j)) (if b then r ∷ [] else map (λ q. k + q) (if c then (place_of (r - k) ps + 1) ∷ [] else (r - k) ∷ [])) ≡ ((k + get_or ps j 0) == r)
       by true e c d =
           let close : r ≤ k = leb-true r k e in
           one_of (suc (k + j)) r (k + get_or ps j 0) r (λ s. absurd (omega arith)) (λ s. absurd (omega (arith, low)))
@@ -76,7 +77,7 @@ module _ (k : ℕ) (ps : List ℕ) (order : IsOrder ps) where
   order_high p l r = by (nat_le r k) refl (nat_le (r - k) (length ps)) refl
     where
       by : (b : Bool) → nat_le r k ≡ b → (c : Bool) → nat_le (r - k) (length ps) ≡ c
-          → is_among p (if b then r ∷ [] else map (λ q. k + q) (if c then (place_of (r - k) ps + 1) ∷ [] else (r - k) ∷ [])) ≡ (p == r)
+          → is_in p (if b then r ∷ [] else map (λ q. k + q) (if c then (place_of (r - k) ps + 1) ∷ [] else (r - k) ∷ [])) ≡ (p == r)
       by true e c d = one_of p r p r (λ s. s) (λ s. s)
       by false e true d =
           let far : k < r = leb-false r k e in
@@ -161,22 +162,22 @@ zero_at (c ∷ cs) e = by (c == 0) refl e (zero_at cs)
 
 -- ---- what several counts depend on
 
-flat_has : (p : ℕ) (ts : Part) (i : ℕ) → i < length ts → is_among p (depends_on (kind_at ts i)) ≡ true → is_among p (flat_map depends_on ts) ≡ true
+flat_has : (p : ℕ) (ts : Part) (i : ℕ) → i < length ts → is_in p (depends_on (kind_at ts i)) ≡ true → is_in p (flat_map depends_on ts) ≡ true
 flat_has p [] i l e = absurd (omega arith)
-flat_has p (t ∷ ts) zero l e = among_append p (depends_on t) (flat_map depends_on ts) ∙ ap (λ b. if b then true else is_among p (flat_map depends_on ts)) e
-flat_has p (t ∷ ts) (suc i) l e = among_append p (depends_on t) (flat_map depends_on ts) ∙ by (is_among p (depends_on t)) (flat_has p ts i (omega arith) e)
+flat_has p (t ∷ ts) zero l e = among_append p (depends_on t) (flat_map depends_on ts) ∙ ap (λ b. b || is_in p (flat_map depends_on ts)) e
+flat_has p (t ∷ ts) (suc i) l e = among_append p (depends_on t) (flat_map depends_on ts) ∙ by (is_in p (depends_on t)) (flat_has p ts i (omega arith) e)
   where
-    by : (b : Bool) → is_among p (flat_map depends_on ts) ≡ true → (if b then true else is_among p (flat_map depends_on ts)) ≡ true
+    by : (b : Bool) → is_in p (flat_map depends_on ts) ≡ true → (b || is_in p (flat_map depends_on ts)) ≡ true
     by true h = refl
     by false h = h
 
-flat_from : (p : ℕ) (ts : Part) → is_among p (flat_map depends_on ts) ≡ true → (i : ℕ) × ((i < length ts) × (is_among p (depends_on (kind_at ts i)) ≡ true))
+flat_from : (p : ℕ) (ts : Part) → is_in p (flat_map depends_on ts) ≡ true → (i : ℕ) × ((i < length ts) × (is_in p (depends_on (kind_at ts i)) ≡ true))
 flat_from p [] e = absurd (cc)
-flat_from p (t ∷ ts) e = by (is_among p (depends_on t)) refl (sym (among_append p (depends_on t) (flat_map depends_on ts)) ∙ e) (flat_from p ts)
+flat_from p (t ∷ ts) e = by (is_in p (depends_on t)) refl (sym (among_append p (depends_on t) (flat_map depends_on ts)) ∙ e) (flat_from p ts)
   where
-    by : (b : Bool) → is_among p (depends_on t) ≡ b → (if b then true else is_among p (flat_map depends_on ts)) ≡ true
-        → (is_among p (flat_map depends_on ts) ≡ true → (i : ℕ) × ((i < length ts) × (is_among p (depends_on (kind_at ts i)) ≡ true)))
-        → (i : ℕ) × ((i < suc (length ts)) × (is_among p (depends_on (kind_at (t ∷ ts) i)) ≡ true))
+    by : (b : Bool) → is_in p (depends_on t) ≡ b → (b || is_in p (flat_map depends_on ts)) ≡ true
+        → (is_in p (flat_map depends_on ts) ≡ true → (i : ℕ) × ((i < length ts) × (is_in p (depends_on (kind_at ts i)) ≡ true)))
+        → (i : ℕ) × ((i < suc (length ts)) × (is_in p (depends_on (kind_at (t ∷ ts) i)) ≡ true))
     by true d h rest = (0, (omega arith, d))
     by false d h rest = let q = rest h in (suc q.0, (let l : q.0 < length ts = q.1.0 in omega arith, q.1.1))
 
@@ -255,7 +256,7 @@ module _ (k : ℕ) (ps : List ℕ) (ks : Part) (t : Tree) (has : HasKinds ks t) 
   near_each : (q : ℕ) → q < length ps → EachBelow (Near (kind_at ks (k + q)) q) k t
   near_each q l = near (kind_at ks (k + q)) k q (k + q) t refl (has (k + q) (omega (arith, l, enough)))
 
-  taken_none : (j i : ℕ) → j < length ps → i < length ps → (i ≡ j → ⊥) → is_among (suc (k + i)) (depends_on (moved (positions_below k (interchange ps)) (kind_at ks (k + (get_or ps j 0 - 1))))) ≡ false
+  taken_none : (j i : ℕ) → j < length ps → i < length ps → (i ≡ j → ⊥) → is_in (suc (k + i)) (depends_on (moved (positions_below k (interchange ps)) (kind_at ks (k + (get_or ps j 0 - 1))))) ≡ false
   taken_none j i l m ne =
       let w = order.within i m in
       let low : 0 < get_or ps i 0 = w.0 in
@@ -279,7 +280,7 @@ module _ (k : ℕ) (ps : List ℕ) (ks : Part) (t : Tree) (has : HasKinds ks t) 
       (λ a b z. z) (free_of_each (λ u. turns u ≡ v) q x x (p.1.1 v (sym (known_moved (positions_below k (interchange ps)) K) ∙ e)))))
       (length_flags k (depends_on K))
       (flags_add k j (k + j) (depends_on (moved (positions_below k (interchange ps)) K)) refl
-      ∙ (λ i. low_flags K i ++ members_same j (λ a. is_among (suc (k + a)) (depends_on (moved (positions_below k (interchange ps)) K))) (λ a. false)
+      ∙ (λ i. low_flags K i ++ members_same j (λ a. is_in (suc (k + a)) (depends_on (moved (positions_below k (interchange ps)) K))) (λ a. false)
       (λ a m. taken_none j a l (omega (arith, m, l)) (λ e. absurd (omega (arith, m, e)))) i))
       (near_taken q (old_place j l))
       (λ x y p r h. interchanged_taken ps order x y p.0 r.0 SameTurns SameTurns (λ a b. a ≡ b) (λ a b. a ≡ b) (λ a b f g z. sym (turns_loop a f) ∙ (z ∙ turns_loop b g)) (λ a b f g z. turns_loop a f ∙ (z ∙ sym (turns_loop b g))) j l later
@@ -342,8 +343,8 @@ module _ (k : ℕ) (ps : List ℕ) (ks : Part) (t : Tree) (has : HasKinds ks t) 
             absurd (cc)
         by (inr (d, s)) = ap turns d ∙ (turns_new ps x order.some ∙ new_is 0 order.some)
 
-  union_count : (F : List ℕ) → ((p : ℕ) → p ≤ k → is_among p F ≡ true → (i : ℕ) × ((i < length ps) × (is_among p (depends_on (kind_at ks (k + i))) ≡ true)))
-      → ((p i : ℕ) → p ≤ k → i < length ps → is_among p (depends_on (kind_at ks (k + i))) ≡ true → is_among p F ≡ true)
+  union_count : (F : List ℕ) → ((p : ℕ) → p ≤ k → is_in p F ≡ true → (i : ℕ) × ((i < length ps) × (is_in p (depends_on (kind_at ks (k + i))) ≡ true)))
+      → ((p i : ℕ) → p ≤ k → i < length ps → is_in p (depends_on (kind_at ks (k + i))) ≡ true → is_in p F ≡ true)
       → HasCount (on_positions F) (k + 0) (at_depth k (interchanged ps) t)
   union_count F from to =
       count_below (λ x. Unit {0}) (λ x y. (i : ℕ) → i < length ps → Related SameTurns (none_flagged i) x y) (on_positions F) (interchanged ps) k 0 (k + 0) t (flags k (depends_on (on_positions F))) [] refl
@@ -352,7 +353,7 @@ module _ (k : ℕ) (ps : List ℕ) (ks : Part) (t : Tree) (has : HasKinds ks t) 
       (λ v e. absurd (let n : known_count (on_positions F) ≡ None = known_on F in cc))
       (length_flags k (depends_on (on_positions F)))
       (flags_add k 0 (k + 0) (depends_on (on_positions F)) refl)
-      (related_union (length ps) (λ i. Related SameTurns (none_flagged i)) k (λ i a. is_among (suc a) (depends_on (kind_at ks (k + i)))) (λ a. is_among (suc a) (depends_on (on_positions F))) t t
+      (related_union (length ps) (λ i. Related SameTurns (none_flagged i)) k (λ i a. is_in (suc a) (depends_on (kind_at ks (k + i)))) (λ a. is_in (suc a) (depends_on (on_positions F))) t t
       near_taken
       (λ a l e. from (suc a) (omega arith) (sym (among_on (suc a) F) ∙ e))
       (λ a i l m e. among_on (suc a) F ∙ to (suc a) i (omega (arith, l)) m e))
@@ -365,25 +366,25 @@ module _ (k : ℕ) (ps : List ℕ) (ks : Part) (t : Tree) (has : HasKinds ks t) 
       let K : CountKind = kind_at ks (k + (length ps + m)) in
       let L : CountKind = moved (positions_below k (interchange ps)) K in
       let b : List Bool = later_flags k (length ps) (depends_on K) in
-      let c : List Bool = members m (λ a. is_among (suc (k + (length ps + a))) (depends_on K)) in
+      let c : List Bool = members m (λ a. is_in (suc (k + (length ps + a))) (depends_on K)) in
       let b' : List Bool = later_flags k (length ps) (depends_on L) in
-      let lb : length b ≡ length ps = length_members (length ps) (λ a. is_among (suc (k + a)) (depends_on K)) in
-      let lb' : length b' ≡ length ps = length_members (length ps) (λ a. is_among (suc (k + a)) (depends_on L)) in
+      let lb : length b ≡ length ps = length_members (length ps) (λ a. is_in (suc (k + a)) (depends_on K)) in
+      let lb' : length b' ≡ length ps = length_members (length ps) (λ a. is_in (suc (k + a)) (depends_on L)) in
       count_moved K L (interchanged ps) k (length ps + m) (length ps + m) (k + (length ps + m)) (k + (length ps + m)) t (IsRect (length ps)) refl refl (has (k + (length ps + m)) l) rects
       (known_moved (positions_below k (interchange ps)) K) (low_flags K)
       (λ x r h. each_interchanged IsLoop ps order m x r h)
       (λ v x r h. each_interchanged (λ u. turns u ≡ v) ps order m x r h)
       (λ x y p q h.
-      let h' : Related (Related SameTurns c) b x y = related_split SameTurns b c x y (subst (λ bs. Related SameTurns bs x y) (members_add (length ps) m (length ps + m) (λ a. is_among (suc (k + a)) (depends_on K)) refl) h) in
+      let h' : Related (Related SameTurns c) b x y = related_split SameTurns b c x y (subst (λ bs. Related SameTurns bs x y) (members_add (length ps) m (length ps + m) (λ a. is_in (suc (k + a)) (depends_on K)) refl) h) in
       let new : Related (Related SameTurns c) b' (interchanged ps x) (interchanged ps y) =
       interchanged_below ps order x y p q (Related SameTurns c) b b' lb lb' (λ j z.
-      flag_at (length ps) j (λ a. is_among (suc (k + a)) (depends_on L)) z
+      flag_at (length ps) j (λ a. is_in (suc (k + a)) (depends_on L)) z
       ∙ (among_moved (positions_below k (interchange ps)) (suc (k + j)) (k + get_or ps j 0) K (order_taken k ps order j z)
-      ∙ (ap (λ p. is_among p (depends_on K)) (old_position j z)
-      ∙ sym (flag_at (length ps) (get_or ps j 0 - 1) (λ a. is_among (suc (k + a)) (depends_on K)) (old_place j z))))) h' in
+      ∙ (ap (λ p. is_in p (depends_on K)) (old_position j z)
+      ∙ sym (flag_at (length ps) (get_or ps j 0 - 1) (λ a. is_in (suc (k + a)) (depends_on K)) (old_place j z))))) h' in
       subst (λ bs. Related SameTurns bs (interchanged ps x) (interchanged ps y))
-      (sym (members_add (length ps) m (length ps + m) (λ a. is_among (suc (k + a)) (depends_on L)) refl
-      ∙ ap (λ e. b' ++ e) (members_same m (λ a. is_among (suc (k + (length ps + a))) (depends_on L)) (λ a. is_among (suc (k + (length ps + a))) (depends_on K))
+      (sym (members_add (length ps) m (length ps + m) (λ a. is_in (suc (k + a)) (depends_on L)) refl
+      ∙ ap (λ e. b' ++ e) (members_same m (λ a. is_in (suc (k + (length ps + a))) (depends_on L)) (λ a. is_in (suc (k + (length ps + a))) (depends_on K))
       (λ a z. among_moved (positions_below k (interchange ps)) (suc (k + (length ps + a))) (suc (k + (length ps + a))) K (order_high k ps order (suc (k + (length ps + a))) (omega arith))))))
       (related_join SameTurns b' c (interchanged ps x) (interchanged ps y) new))
 
@@ -420,10 +421,10 @@ module _ (k : ℕ) (ps : List ℕ) (ks : Part) (t : Tree) (has : HasKinds ks t) 
           (λ p l h.
           let q = flat_from p (take (length ps) (drop k (map (moved (positions_below k (interchange ps))) ks))) h in
           let lq : q.0 < length ps = let z : q.0 < length (take (length ps) (drop k (map (moved (positions_below k (interchange ps))) ks))) = q.1.0 in omega (arith, z, taken_many) in
-          (q.0, (lq, sym (among_moved (positions_below k (interchange ps)) p p (kind_at ks (k + q.0)) (order_low k ps order p l)) ∙ (ap (λ K. is_among p (depends_on K)) (sym (taken_kind q.0 lq)) ∙ q.1.1))))
+          (q.0, (lq, sym (among_moved (positions_below k (interchange ps)) p p (kind_at ks (k + q.0)) (order_low k ps order p l)) ∙ (ap (λ K. is_in p (depends_on K)) (sym (taken_kind q.0 lq)) ∙ q.1.1))))
           (λ p i l m h.
           flat_has p (take (length ps) (drop k (map (moved (positions_below k (interchange ps))) ks))) i (omega (arith, m, taken_many))
-          (ap (λ K. is_among p (depends_on K)) (taken_kind i m) ∙ (among_moved (positions_below k (interchange ps)) p p (kind_at ks (k + i)) (order_low k ps order p l) ∙ h)))
+          (ap (λ K. is_in p (depends_on K)) (taken_kind i m) ∙ (among_moved (positions_below k (interchange ps)) p p (kind_at ks (k + i)) (order_low k ps order p l) ∙ h)))
       first (Some cs) e = with_counts cs (known_each (take (length ps) (drop k (map (moved (positions_below k (interchange ps))) ks))) cs e)
         where
           with_counts : (cs : List ℕ) → (length cs ≡ length (take (length ps) (drop k (map (moved (positions_below k (interchange ps))) ks)))) × ((i : ℕ) → i < length (take (length ps) (drop k (map (moved (positions_below k (interchange ps))) ks))) → known_count (kind_at (take (length ps) (drop k (map (moved (positions_below k (interchange ps))) ks))) i) ≡ Some (get_or cs i 0))

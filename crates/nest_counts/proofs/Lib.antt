@@ -1,3 +1,4 @@
+pub mod Tests
 pub mod Ways
 pub mod Built
 pub mod Sizes
@@ -20,4 +21,9 @@ pub mod Statements
 pub mod Bounds
 pub mod Found
 pub mod Orders
+pub mod Arguments
+pub mod Deeper
+pub mod Structured
+pub mod Asked
+pub mod LoopDepths
 pub mod Corollaries

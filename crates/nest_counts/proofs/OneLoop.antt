@@ -5,7 +5,8 @@ use Rattle.c_semantics.specs.Loops.Transformations.{Transformation, div_up, unro
 use Rattle.canonical_nests.specs.declared.nest.CountKind.{CountKind}
 use Rattle.canonical_nests.specs.declared.nest.CountKind.TheVariants.{Known, Entry, Depends}
 use Rattle.canonical_nests.specs.Kinds.{Part, depends_on, moved, known_count, settled, kind_at, positions_below, chunk_kind}
-use Rattle.nest_counts.specs.HasKinds.{is_among, flags, IsLoop, turns, Related, SameTurns, HasCount, HasKinds}
+use Rattle.canonical_nests.specs.LoopRules.Clauses.{is_in}
+use Rattle.nest_counts.specs.HasKinds.{flags, IsLoop, turns, Related, SameTurns, HasCount, HasKinds}
 use Rattle.nest_counts.proofs.Built.{turns_loop}
 use Rattle.nest_counts.proofs.Places.{kind_map, kind_drop, known_moved, flags_moved, ComesFrom, later_flags, among_moved, length_kinds}
 use Rattle.nest_counts.proofs.Built.{members_same}
@@ -18,7 +19,7 @@ Stays f = (p : ℕ) → 0 < p → ComesFrom f p p
 
 later_moved : (g : ℕ → List ℕ) (k j : ℕ) (K : CountKind) → Stays g → later_flags k j (depends_on (moved g K)) ≡ later_flags k j (depends_on K)
 later_moved g k j K stays =
-    members_same j (λ i. is_among (suc (k + i)) (depends_on (moved g K))) (λ i. is_among (suc (k + i)) (depends_on K))
+    members_same j (λ i. is_in (suc (k + i)) (depends_on (moved g K))) (λ i. is_in (suc (k + i)) (depends_on K))
     (λ i l. among_moved g (suc (k + i)) (suc (k + i)) K (stays (suc (k + i)) (omega arith)))
 
 lengths : (a k : ℕ) (g : CountKind → CountKind) (ks : Part) → length (drop a (drop k (map g ks))) ≡ length ks - k - a
@@ -46,7 +47,7 @@ selected_part c k ks f s L t h l stays deps known =
         (λ x q r. each_selected f s IsLoop j x r)
         (λ v x q r. each_selected f s (λ u. turns u ≡ v) j x r)
         (λ x y q r e. subst (λ bs. Related SameTurns bs (f x) (f y)) (sym (later_moved (positions_below k c) k (suc j) K stays))
-        (related_selected f s SameTurns (is_among (suc (k + 0)) (depends_on K)) (members j (λ i. is_among (suc (k + suc i)) (depends_on K))) x y e)))
+        (related_selected f s SameTurns (is_in (suc (k + 0)) (depends_on K)) (members j (λ i. is_in (suc (k + suc i)) (depends_on K))) x y e)))
 
 -- a loop of chunks, below which the part ends
 pub chunked_part : (c : Transformation) (s : ℕ) (k : ℕ) (ks : Part) (t : Tree) → HasKinds ks t → k < length ks → Stays (positions_below k c)

@@ -3,7 +3,7 @@ use Rattle.std.proofs.Common.{◌≡◌, refl, sym, ap, ◌∙◌, ℕ, zero, su
 use Rattle.std.specs.Prelude.{◌==◌, ◌&&◌, ◌||◌, not, if◌then◌else◌}
 use Rattle.std.specs.List.{AllByRecursion, IsDistinct, list_any}
 use Rattle.std.proofs.Math.Dec.{eqb}
-use Rattle.std.proofs.lemmas.Bool.{eqb-true, eq-eqb, ne_eqb}
+use Rattle.std.proofs.lemmas.Bool.{eqb-true, eq-eqb, ne_eqb, or_parts}
 use Rattle.std.proofs.lemmas.Map.Keys.{IsDistinct-cons}
 use Rattle.std.proofs.lemmas.Map.Steps.{length-le_from_distinct_below}
 use Rattle.c_semantics.specs.Loops.Transformations.{place_of}
@@ -44,11 +44,7 @@ once (q ∷ ps) d (suc j) l =
 
 none_in : (q : ℕ) (ps : List ℕ) → is_in q ps ≡ false → AllByRecursion (λ y. eqb q y ≡ false) ps
 none_in q [] h = tt
-none_in q (p ∷ ps) h = let w = or_false (q == p) (is_in q ps) h in (w.0, none_in q ps w.1)
-  where
-    or_false : (a b : Bool) → (a || b) ≡ false → (a ≡ false) × (b ≡ false)
-    or_false true b h = absurd (cc)
-    or_false false b h = (refl, h)
+none_in q (p ∷ ps) h = let w = or_parts (q == p) (is_in q ps) h in (w.0, none_in q ps w.1)
 
 nothing_distinct : IsDistinct eqb []
 unfolding IsDistinct

@@ -1,12 +1,13 @@
 -- Positions of loops before and after a transformation, and what a part says at each place.
 use Rattle.std.proofs.Common.{◌≡◌, refl, sym, ap, ◌∙◌, ℕ, zero, suc, ◌+◌, ◌<◌, ◌≤◌, List, [], ◌∷◌, ◌++◌, map, length, take, drop, None, Bool, true, false, arith}
-use Rattle.std.specs.Prelude.{◌==◌, nat_lt, nat_le, flat_map, if◌then◌else◌}
+use Rattle.std.specs.Prelude.{◌||◌, ◌==◌, nat_lt, nat_le, flat_map, if◌then◌else◌}
 use Rattle.std.proofs.lemmas.Bool.{eqb-true, ne_eqb}
 use Rattle.c_semantics.specs.Loops.IterationTrees.{members}
 use Rattle.canonical_nests.specs.declared.nest.CountKind.{CountKind}
 use Rattle.canonical_nests.specs.declared.nest.CountKind.TheVariants.{Known, Entry, Depends}
 use Rattle.canonical_nests.specs.Kinds.{Part, with_position, ascending, depends_on, some_or_entry, on_positions, moved, known_count, position_up_to, kind_at}
-use Rattle.nest_counts.specs.HasKinds.{is_among, flags}
+use Rattle.canonical_nests.specs.LoopRules.Clauses.{is_in}
+use Rattle.nest_counts.specs.HasKinds.{flags}
 use Rattle.nest_counts.proofs.Built.{length_members, members_same}
 
 -- ---- what a part says at a place
@@ -45,47 +46,47 @@ length_kinds g (k ∷ ks) = ap (λ n. suc n) (length_kinds g ks)
 
 -- ---- positions among others
 
-pub among_append : (p : ℕ) (qs rs : List ℕ) → is_among p (qs ++ rs) ≡ (if is_among p qs then true else is_among p rs)
+pub among_append : (p : ℕ) (qs rs : List ℕ) → is_in p (qs ++ rs) ≡ (is_in p qs || is_in p rs)
 among_append p [] rs = refl
 among_append p (q ∷ qs) rs = by (p == q) (among_append p qs rs)
   where
-    by : (b : Bool) → is_among p (qs ++ rs) ≡ (if is_among p qs then true else is_among p rs)
-        → (if b then true else is_among p (qs ++ rs)) ≡ (if (if b then true else is_among p qs) then true else is_among p rs)
+    by : (b : Bool) → is_in p (qs ++ rs) ≡ (is_in p qs || is_in p rs)
+        → (b || is_in p (qs ++ rs)) ≡ ((b || is_in p qs) || is_in p rs)
     by true e = refl
     by false e = e
 
-pub among_with : (p q : ℕ) (qs : List ℕ) → is_among p (with_position q qs) ≡ (if p == q then true else is_among p qs)
+pub among_with : (p q : ℕ) (qs : List ℕ) → is_in p (with_position q qs) ≡ (p == q || is_in p qs)
 among_with p q [] = refl
 among_with p q (r ∷ rs) = by (nat_lt q r) (q == r) refl (among_with p q rs)
   where
-    swap : (a b c : Bool) → (if a then true else if b then true else c) ≡ (if b then true else if a then true else c)
+    swap : (a b c : Bool) → (a || (b || c)) ≡ (b || (a || c))
     swap true true c = refl
     swap true false c = refl
     swap false true c = refl
     swap false false c = refl
 
-    twice : (a b c : Bool) → a ≡ b → (if a then true else c) ≡ (if b then true else if a then true else c)
+    twice : (a b c : Bool) → a ≡ b → (a || c) ≡ (b || (a || c))
     twice true true c e = refl
     twice true false c e = refl
     twice false true c e = absurd (cc)
     twice false false c e = refl
 
-    by : (l b : Bool) → (q == r) ≡ b → is_among p (with_position q rs) ≡ (if p == q then true else is_among p rs)
-        → is_among p (if l then q ∷ r ∷ rs else if b then r ∷ rs else r ∷ with_position q rs) ≡ (if p == q then true else if p == r then true else is_among p rs)
+    by : (l b : Bool) → (q == r) ≡ b → is_in p (with_position q rs) ≡ (p == q || is_in p rs)
+        → is_in p (if l then q ∷ r ∷ rs else if b then r ∷ rs else r ∷ with_position q rs) ≡ (p == q || (p == r || is_in p rs))
     by true b e h = refl
-    by false true e h = twice (p == r) (p == q) (is_among p rs) (ap (λ x. p == x) (sym (eqb-true q r e)))
-    by false false e h = ap (λ x. if p == r then true else x) h ∙ swap (p == r) (p == q) (is_among p rs)
+    by false true e h = twice (p == r) (p == q) (is_in p rs) (ap (λ x. p == x) (sym (eqb-true q r e)))
+    by false false e h = ap (λ x. p == r || x) h ∙ swap (p == r) (p == q) (is_in p rs)
 
-pub among_ascending : (p : ℕ) (qs : List ℕ) → is_among p (ascending qs) ≡ is_among p qs
+pub among_ascending : (p : ℕ) (qs : List ℕ) → is_in p (ascending qs) ≡ is_in p qs
 among_ascending p [] = refl
-among_ascending p (q ∷ qs) = among_with p q (ascending qs) ∙ ap (λ x. if p == q then true else x) (among_ascending p qs)
+among_ascending p (q ∷ qs) = among_with p q (ascending qs) ∙ ap (λ x. p == q || x) (among_ascending p qs)
 
 depends_some : (qs : List ℕ) → depends_on (some_or_entry qs) ≡ qs
 depends_some [] = refl
 depends_some (q ∷ qs) = refl
 
-pub among_on : (p : ℕ) (qs : List ℕ) → is_among p (depends_on (on_positions qs)) ≡ is_among p qs
-among_on p qs = ap (is_among p) (depends_some (ascending qs)) ∙ among_ascending p qs
+pub among_on : (p : ℕ) (qs : List ℕ) → is_in p (depends_on (on_positions qs)) ≡ is_in p qs
+among_on p qs = ap (is_in p) (depends_some (ascending qs)) ∙ among_ascending p qs
 
 known_some : (qs : List ℕ) → known_count (some_or_entry qs) ≡ None
 known_some [] = refl
@@ -103,14 +104,14 @@ known_moved f (Depends ps) = known_on (flat_map f ps)
 
 -- a new position comes from just one old one
 abbrev pub ComesFrom : (ℕ → List ℕ) → ℕ → ℕ → Type 0
-ComesFrom f p q = (r : ℕ) → is_among p (f r) ≡ (q == r)
+ComesFrom f p q = (r : ℕ) → is_in p (f r) ≡ (q == r)
 
-pub among_flat : (f : ℕ → List ℕ) (p q : ℕ) (rs : List ℕ) → ComesFrom f p q → is_among p (flat_map f rs) ≡ is_among q rs
+pub among_flat : (f : ℕ → List ℕ) (p q : ℕ) (rs : List ℕ) → ComesFrom f p q → is_in p (flat_map f rs) ≡ is_in q rs
 among_flat f p q [] from = refl
 among_flat f p q (r ∷ rs) from =
-    among_append p (f r) (flat_map f rs) ∙ (ap (λ x. if x then true else is_among p (flat_map f rs)) (from r) ∙ ap (λ x. if q == r then true else x) (among_flat f p q rs from))
+    among_append p (f r) (flat_map f rs) ∙ (ap (λ x. x || is_in p (flat_map f rs)) (from r) ∙ ap (λ x. q == r || x) (among_flat f p q rs from))
 
-pub among_moved : (f : ℕ → List ℕ) (p q : ℕ) (k : CountKind) → ComesFrom f p q → is_among p (depends_on (moved f k)) ≡ is_among q (depends_on k)
+pub among_moved : (f : ℕ → List ℕ) (p q : ℕ) (k : CountKind) → ComesFrom f p q → is_in p (depends_on (moved f k)) ≡ is_in q (depends_on k)
 among_moved f p q (Known c) from = refl
 among_moved f p q Entry from = refl
 among_moved f p q (Depends rs) from = among_on p (flat_map f rs) ∙ among_flat f p q rs from
@@ -118,7 +119,7 @@ among_moved f p q (Depends rs) from = among_on p (flat_map f rs) ∙ among_flat 
 -- ---- flags
 
 pub length_flags : (n : ℕ) (ps : List ℕ) → length (flags n ps) ≡ n
-length_flags n ps = length_members n (λ i. is_among (suc i) ps)
+length_flags n ps = length_members n (λ i. is_in (suc i) ps)
 
 pub members_add : {A : Type 0} (k j n : ℕ) (f : ℕ → A) → n ≡ k + j → members n f ≡ members k f ++ members j (λ i. f (k + i))
 members_add zero j n f e = ap (λ m. members m f) (let i : n ≡ j = omega arith in i) ∙ members_same j f (λ i. f (0 + i)) (λ i l. ap f (let s : i ≡ 0 + i = omega arith in s))
@@ -129,22 +130,22 @@ members_add (suc k) j (suc n) f e =
 
 -- the flags of the positions after k
 abbrev pub later_flags : ℕ → ℕ → List ℕ → List Bool
-later_flags k j ps = members j (λ i. is_among (suc (k + i)) ps)
+later_flags k j ps = members j (λ i. is_in (suc (k + i)) ps)
 
 pub flags_add : (k j n : ℕ) (ps : List ℕ) → n ≡ k + j → flags n ps ≡ flags k ps ++ later_flags k j ps
-flags_add k j n ps e = members_add k j n (λ i. is_among (suc i) ps) e
+flags_add k j n ps e = members_add k j n (λ i. is_in (suc i) ps) e
 
 pub flags_moved : (f : ℕ → List ℕ) (n : ℕ) (k : CountKind) → ((p : ℕ) → 0 < p → p ≤ n → ComesFrom f p p) → flags n (depends_on (moved f k)) ≡ flags n (depends_on k)
 flags_moved f n k from =
-    members_same n (λ i. is_among (suc i) (depends_on (moved f k))) (λ i. is_among (suc i) (depends_on k)) (λ i l. among_moved f (suc i) (suc i) k (from (suc i) (omega arith) (omega (arith, l))))
+    members_same n (λ i. is_in (suc i) (depends_on (moved f k))) (λ i. is_in (suc i) (depends_on k)) (λ i l. among_moved f (suc i) (suc i) k (from (suc i) (omega arith) (omega (arith, l))))
 
 pub up_to_from : (m p : ℕ) → p ≤ m → ComesFrom (position_up_to m) p p
 up_to_from m p l r = by (nat_le r m) refl
   where
-    by : (b : Bool) → nat_le r m ≡ b → is_among p (if b then r ∷ [] else []) ≡ (p == r)
+    by : (b : Bool) → nat_le r m ≡ b → is_in p (if b then r ∷ [] else []) ≡ (p == r)
     by true e = same (p == r)
       where
-        same : (b : Bool) → (if b then true else false) ≡ b
+        same : (b : Bool) → (b || false) ≡ b
         same true = refl
         same false = refl
     by false e = sym (ne_eqb p r (λ s. absurd (grind arith)))

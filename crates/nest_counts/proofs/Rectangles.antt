@@ -1,13 +1,14 @@
 -- The loops that are taken together, none of which depends on another, are as wide everywhere.
 use Rattle.std.proofs.Common.{◌≡◌, refl, ◌∙◌, subst, ℕ, zero, suc, ◌+◌, ◌-◌, ◌<◌, ◌≤◌, List, [], ◌∷◌, length, take, drop, Bool, true, false, arith, length-drop}
-use Rattle.std.specs.Prelude.{◌==◌, ◌||◌, ◌&&◌, not, if◌then◌else◌}
+use Rattle.std.specs.Prelude.{◌==◌, ◌||◌, ◌&&◌, not}
 use Rattle.std.specs.List.{list_any}
-use Rattle.std.proofs.lemmas.Bool.{eqb-true, ne_eqb, lt-ltb, le-leb}
+use Rattle.std.proofs.lemmas.Bool.{eqb-true, ne_eqb, lt-ltb, le-leb, or_parts}
 use Rattle.c_semantics.specs.Loops.IterationTrees.{Tree, widths, pick, build}
 use Rattle.canonical_nests.specs.declared.nest.CountKind.{CountKind}
 use Rattle.canonical_nests.specs.Kinds.{Part, kind_at, depends_on}
 use Rattle.canonical_nests.specs.LoopRules.Counts.{is_among_taken, depends_on_taken, some_depends, depend_on_another}
-use Rattle.nest_counts.specs.HasKinds.{is_among, flags, IsLoop, child, EachBelow, Related, SameTurns, HasKinds}
+use Rattle.canonical_nests.specs.LoopRules.Clauses.{is_in}
+use Rattle.nest_counts.specs.HasKinds.{flags, IsLoop, child, EachBelow, Related, SameTurns, HasKinds}
 use Rattle.nest_counts.proofs.Ways.{none_flagged, each_both, each_more}
 use Rattle.nest_counts.proofs.Built.{members_same, built}
 use Rattle.nest_counts.proofs.Places.{kind_drop, later_flags, length_flags}
@@ -17,31 +18,23 @@ use Rattle.nest_counts.proofs.Kept.{Near, near, near_related}
 
 some_at : (k n q : ℕ) (cs : Part) (i : ℕ) → i < length cs → some_depends k n q cs ≡ false → depends_on_taken k n (q + i) (kind_at cs i) ≡ false
 some_at k n q [] i l e = absurd (omega arith)
-some_at k n q (c ∷ cs) i l e = by i l (first (depends_on_taken k n q c) (some_depends k n (q + 1) cs) e) (some_at k n (q + 1) cs)
+some_at k n q (c ∷ cs) i l e = by i l (or_parts (depends_on_taken k n q c) (some_depends k n (q + 1) cs) e) (some_at k n (q + 1) cs)
   where
-    first : (a b : Bool) → (a || b) ≡ false → (a ≡ false) × (b ≡ false)
-    first true b e = absurd (cc)
-    first false b e = (refl, e)
-
     by : (i : ℕ) → i < suc (length cs) → (depends_on_taken k n q c ≡ false) × (some_depends k n (q + 1) cs ≡ false)
         → ((i : ℕ) → i < length cs → some_depends k n (q + 1) cs ≡ false → depends_on_taken k n (q + 1 + i) (kind_at cs i) ≡ false)
         → depends_on_taken k n (q + i) (kind_at (c ∷ cs) i) ≡ false
     by zero l p rest = subst (λ r. depends_on_taken k n r c ≡ false) (let s : q ≡ q + 0 = omega arith in s) p.0
     by (suc i) l p rest = subst (λ r. depends_on_taken k n r (kind_at cs i) ≡ false) (let s : q + 1 + i ≡ q + suc i = omega arith in s) (rest i (omega arith) p.1)
 
-not_among : (k n q p : ℕ) (ds : List ℕ) → list_any (λ r. is_among_taken k n r && not (r == q)) ds ≡ false → k < p → p ≤ k + n → (p ≡ q → ⊥) → is_among p ds ≡ false
+not_among : (k n q p : ℕ) (ds : List ℕ) → list_any (λ r. is_among_taken k n r && not (r == q)) ds ≡ false → k < p → p ≤ k + n → (p ≡ q → ⊥) → is_in p ds ≡ false
 not_among k n q p [] e l m ne = refl
-not_among k n q p (r ∷ ds) e l m ne = by (p == r) refl (both (is_among_taken k n r && not (r == q)) (list_any (λ r. is_among_taken k n r && not (r == q)) ds) e) (λ d. not_among k n q p ds d l m ne)
+not_among k n q p (r ∷ ds) e l m ne = by (p == r) refl (or_parts (is_among_taken k n r && not (r == q)) (list_any (λ r. is_among_taken k n r && not (r == q)) ds) e) (λ d. not_among k n q p ds d l m ne)
   where
-    both : (a b : Bool) → (a || b) ≡ false → (a ≡ false) × (b ≡ false)
-    both true b e = absurd (cc)
-    both false b e = (refl, e)
-
     test : p ≡ r → (is_among_taken k n r && not (r == q)) ≡ true
     test s = (λ i. (lt-ltb k r (subst (λ x. k < x) s l) i && le-leb r (k + n) (subst (λ x. x ≤ k + n) s m) i) && not (ne_eqb r q (λ e. ne (s ∙ e)) i))
 
     by : (b : Bool) → (p == r) ≡ b → ((is_among_taken k n r && not (r == q)) ≡ false) × (list_any (λ r. is_among_taken k n r && not (r == q)) ds ≡ false)
-        → (list_any (λ r. is_among_taken k n r && not (r == q)) ds ≡ false → is_among p ds ≡ false) → (if b then true else is_among p ds) ≡ false
+        → (list_any (λ r. is_among_taken k n r && not (r == q)) ds ≡ false → is_in p ds ≡ false) → (b || is_in p ds) ≡ false
     by true b h rest = absurd (let s : (is_among_taken k n r && not (r == q)) ≡ true = test (eqb-true p r b) in let u : (is_among_taken k n r && not (r == q)) ≡ false = h.0 in cc)
     by false b h rest = rest h.1
 
@@ -59,7 +52,7 @@ many_taken (suc n) (c ∷ cs) (suc j) l m = let h : j < length (take n cs) = man
 
 -- a taken loop depends on no other taken one
 pub on_no_other : (k n : ℕ) (ks : Part) → k + n ≤ length ks → depend_on_another k n ks ≡ false → (j p : ℕ) → j < n → k < p → p ≤ k + n → (p ≡ suc (k + j) → ⊥)
-    → is_among p (depends_on (kind_at ks (k + j))) ≡ false
+    → is_in p (depends_on (kind_at ks (k + j))) ≡ false
 on_no_other k n ks l e j p m a b ne =
     not_among k n (k + 1 + j) p (depends_on (kind_at ks (k + j)))
     (subst (λ K. depends_on_taken k n (k + 1 + j) K ≡ false) (taken_at ∙ kind_drop k ks j (k + j) refl)
@@ -84,7 +77,7 @@ each_diagonal R (b ∷ bs) t h = λ i l. each_diagonal R bs (child t i) (h.1 i i
 
 pub later_none : (k n : ℕ) (ks : Part) → k + n ≤ length ks → depend_on_another k n ks ≡ false → (j m : ℕ) → j < n → m ≤ j → later_flags k m (depends_on (kind_at ks (k + j))) ≡ none_flagged m
 later_none k n ks l e j m a b =
-    members_same m (λ i. is_among (suc (k + i)) (depends_on (kind_at ks (k + j)))) (λ i. false)
+    members_same m (λ i. is_in (suc (k + i)) (depends_on (kind_at ks (k + j)))) (λ i. false)
     (λ i c. on_no_other k n ks l e j (suc (k + i)) a (omega arith) (omega (arith, c, a, b)) (λ s. absurd (omega (arith, c, b, s))))
 
 -- each nest of n taken loops is one that is built

@@ -1,6 +1,7 @@
 -- A source loop has the kind that its bounds say, and what is below it keeps its kinds.
 use Rattle.std.proofs.Common.{◌≡◌, refl, sym, ap, ◌∙◌, subst, ℕ, zero, suc, ◌+◌, ◌<◌, List, [], ◌∷◌, map, length, Option, Some, None, Result, Ok, Bool, true, false, ℤ, arith, ◌⊎◌, inl, inr}
 use Rattle.std.specs.Prelude.{◌&&◌, if◌then◌else◌}
+use Rattle.std.proofs.lemmas.Bool.{and_parts}
 use Rattle.c_tree.specs.Bare.{Name, Expr, num, read, item, un, bin, cond, cast, Head}
 use Rattle.c_tree.specs.declared.arithmetic.Trap.{Trap}
 use Rattle.c_tree.specs.Arithmetic.{and_then, convert, un_type, bin_type, common, apply_un, apply_bin, is_zero, settles, unless_settled}
@@ -16,7 +17,8 @@ use Rattle.canonical_nests.specs.declared.nest.CountKind.{CountKind}
 use Rattle.canonical_nests.specs.declared.nest.CountKind.TheVariants.{Entry}
 use Rattle.canonical_nests.specs.Kinds.{Part, depends_on, moved, known_count, kind_at, same_kind}
 use Rattle.canonical_nests.specs.Shapes.{source_kind, one_further_in, below_source}
-use Rattle.nest_counts.specs.HasKinds.{is_among, flags, IsLoop, turns, child, EachBelow, Related, SameTurns, HasCount, HasKinds}
+use Rattle.canonical_nests.specs.LoopRules.Clauses.{is_in}
+use Rattle.nest_counts.specs.HasKinds.{flags, IsLoop, turns, child, EachBelow, Related, SameTurns, HasCount, HasKinds}
 use Rattle.nest_counts.specs.Plans.{Beside}
 use Rattle.nest_counts.specs.Statements.{SaysAlike}
 use Rattle.nest_counts.proofs.Built.{members_same, turns_loop, child_loop}
@@ -25,14 +27,6 @@ use Rattle.nest_counts.proofs.TilePlaces.{one_of}
 
 -- ---- constants
 
-left_true : (a b : Bool) → (a && b) ≡ true → a ≡ true
-left_true true b h = refl
-left_true false b h = absurd (cc)
-
-right_true : (a b : Bool) → (a && b) ≡ true → b ≡ true
-right_true true b h = h
-right_true false b h = absurd (cc)
-
 module _ (ds : List Define) (s u : State) (same : (x : Name) → is_define ds x ≡ true → look s x ≡ look u x) where
   type_same : (e : Expr) → only_constants ds e ≡ true → type_of ds s e ≡ type_of ds u e
   type_same (num k t) h = refl
@@ -40,13 +34,13 @@ module _ (ds : List Define) (s u : State) (same : (x : Name) → is_define ds x 
   type_same (item x es) h = absurd (cc)
   type_same (un op a) h = ap (un_type op) (type_same a h)
   type_same (bin op a b) h =
-      let ha : only_constants ds a ≡ true = left_true (only_constants ds a) (only_constants ds b) h in
-      let hb : only_constants ds b ≡ true = right_true (only_constants ds a) (only_constants ds b) h in
+      let ha : only_constants ds a ≡ true = (and_parts (only_constants ds a) (only_constants ds b) h).0 in
+      let hb : only_constants ds b ≡ true = (and_parts (only_constants ds a) (only_constants ds b) h).1 in
       (λ i. bin_type op (type_same a ha i) (type_same b hb i))
   type_same (cond a b c) h =
-      let bc : (only_constants ds b && only_constants ds c) ≡ true = right_true (only_constants ds a) (only_constants ds b && only_constants ds c) h in
-      let hb : only_constants ds b ≡ true = left_true (only_constants ds b) (only_constants ds c) bc in
-      let hc : only_constants ds c ≡ true = right_true (only_constants ds b) (only_constants ds c) bc in
+      let bc : (only_constants ds b && only_constants ds c) ≡ true = (and_parts (only_constants ds a) (only_constants ds b && only_constants ds c) h).1 in
+      let hb : only_constants ds b ≡ true = (and_parts (only_constants ds b) (only_constants ds c) bc).0 in
+      let hc : only_constants ds c ≡ true = (and_parts (only_constants ds b) (only_constants ds c) bc).1 in
       (λ i. common (type_same b hb i) (type_same c hc i))
   type_same (cast t a) h = refl
 
@@ -56,14 +50,14 @@ module _ (ds : List Define) (s u : State) (same : (x : Name) → is_define ds x 
   value_same (item x es) h = absurd (cc)
   value_same (un op a) h = (λ i. and_then (value_same a h i) (apply_un op (type_same a h i)))
   value_same (bin op a b) h =
-      let ha : only_constants ds a ≡ true = left_true (only_constants ds a) (only_constants ds b) h in
-      let hb : only_constants ds b ≡ true = right_true (only_constants ds a) (only_constants ds b) h in
+      let ha : only_constants ds a ≡ true = (and_parts (only_constants ds a) (only_constants ds b) h).0 in
+      let hb : only_constants ds b ≡ true = (and_parts (only_constants ds a) (only_constants ds b) h).1 in
       (λ i. and_then (value_same a ha i) (λ x. unless_settled (settles op x) (value_same b hb i) (apply_bin op (common (type_same a ha i) (type_same b hb i)) x)))
   value_same (cond a b c) h =
-      let ha : only_constants ds a ≡ true = left_true (only_constants ds a) (only_constants ds b && only_constants ds c) h in
-      let bc : (only_constants ds b && only_constants ds c) ≡ true = right_true (only_constants ds a) (only_constants ds b && only_constants ds c) h in
-      let hb : only_constants ds b ≡ true = left_true (only_constants ds b) (only_constants ds c) bc in
-      let hc : only_constants ds c ≡ true = right_true (only_constants ds b) (only_constants ds c) bc in
+      let ha : only_constants ds a ≡ true = (and_parts (only_constants ds a) (only_constants ds b && only_constants ds c) h).0 in
+      let bc : (only_constants ds b && only_constants ds c) ≡ true = (and_parts (only_constants ds a) (only_constants ds b && only_constants ds c) h).1 in
+      let hb : only_constants ds b ≡ true = (and_parts (only_constants ds b) (only_constants ds c) bc).0 in
+      let hc : only_constants ds c ≡ true = (and_parts (only_constants ds b) (only_constants ds c) bc).1 in
       (λ i. and_then (value_same a ha i) (λ x. if is_zero x then value_same c hc i else value_same b hb i))
   value_same (cast t a) h = (λ i. and_then (value_same a h i) (convert t))
 
@@ -172,10 +166,10 @@ further_has ks K r t h known (suc m) l =
         (λ i j x y e.
             let x' : i < r.count = subst (λ w. i < w) (turns_loop r.count f) x in
             let y' : j < r.count = subst (λ w. j < w) (turns_loop r.count f) y in
-            subst (λ a. Related SameTurns (members m (λ p. is_among (suc (suc p)) (depends_on M))) a (child (loop_of (members r.count f)) j)) (sym (child_loop r.count i f x'))
-            (subst (Related SameTurns (members m (λ p. is_among (suc (suc p)) (depends_on M))) (f i)) (sym (child_loop r.count j f y'))
+            subst (λ a. Related SameTurns (members m (λ p. is_in (suc (suc p)) (depends_on M))) a (child (loop_of (members r.count f)) j)) (sym (child_loop r.count i f x'))
+            (subst (Related SameTurns (members m (λ p. is_in (suc (suc p)) (depends_on M))) (f i)) (sym (child_loop r.count j f y'))
             (subst (λ bs. Related SameTurns bs (f i) (f j))
-            (sym (members_same m (λ p. is_among (suc (suc p)) (depends_on M)) (λ p. is_among (suc p) (depends_on L)) (λ p q. among_moved (λ p. (p + 1) ∷ []) (suc (suc p)) (suc p) L (further_from (suc p)))))
+            (sym (members_same m (λ p. is_in (suc (suc p)) (depends_on M)) (λ p. is_in (suc p) (depends_on L)) (λ p q. among_moved (λ p. (p + 1) ∷ []) (suc (suc p)) (suc p) L (further_from (suc p)))))
             (related_put (value_at r i) (value_at r j) (flags m (depends_on L)) t t h'.same)))),
       );
     })

@@ -22,7 +22,7 @@ use Rattle.canonical_nests.specs.Shapes as shapes
 use Rattle.canonical_nests.specs.Shapes.{source_kind, below_source, stmt_kinds, single_kinds, member_kinds, body_kinds}
 use Rattle.nest_counts.specs.HasKinds.{HasKinds}
 use Rattle.nest_counts.specs.Plans.{Beside, Finds, PartsHave}
-use Rattle.nest_counts.specs.Statements.{SaysAlike, found_by, IsLoopStmt, StmtFinds, SingleFinds, MembersFind}
+use Rattle.nest_counts.specs.Statements.{SaysAlike, FoundBy, IsLoopStmt, StmtFinds, SingleFinds, MembersFind}
 use Rattle.nest_counts.specs.Laws.{ConstructsHaveKinds}
 use Rattle.nest_counts.proofs.Transformed.{beside, beside_at, beside_length, beside_append}
 use Rattle.nest_counts.proofs.Items.{plan_has}
@@ -44,7 +44,7 @@ some_beside : (ps : List Part) (ts : List Tree) → Gives ps ts → 0 < length p
 some_beside ps ts (inl e) l = absurd (let z : length ps ≡ 0 = ap length e in omega arith)
 some_beside ps ts (inr b) l = b
 
-found_beside : (k : Kind) (one all : List Part) (S M : Type 0) (ts : List Tree) → (S → Beside HasKinds one ts) → (M → Beside HasKinds all ts) → found_by k S M → Beside HasKinds (shapes.found_by k one all) ts
+found_beside : (k : Kind) (one all : List Part) (S M : Type 0) (ts : List Tree) → (S → Beside HasKinds one ts) → (M → Beside HasKinds all ts) → FoundBy k S M → Beside HasKinds (shapes.found_by k one all) ts
 found_beside Tile one all S M ts s m h = s h
 found_beside Unroll one all S M ts s m h = s h
 found_beside Interchange one all S M ts s m h = s h
@@ -80,7 +80,7 @@ for_gives ds scope s b m h below ps ts alike none gives e =
 
 omp_gives : (r : Result (List Tree) Trap) (p : Plan) (k : Kind) (one all : List Part) (S M : Type 0) (ts : List Tree)
     → ((us : List Tree) → r ≡ Ok us → S → Gives one us) → ((us : List Tree) → r ≡ Ok us → M → Beside HasKinds all us)
-    → found_by k (S × (0 < length one)) M × Finds p 0 (shapes.found_by k one all) → and_then r (λ us. Ok (apply_plan p us)) ≡ Ok ts → Beside HasKinds (plan_kinds p 0 (shapes.found_by k one all)) ts
+    → FoundBy k (S × (0 < length one)) M × Finds p 0 (shapes.found_by k one all) → and_then r (λ us. Ok (apply_plan p us)) ≡ Ok ts → Beside HasKinds (plan_kinds p 0 (shapes.found_by k one all)) ts
 omp_gives r p k one all S M ts single members finds e =
     let q = then_ok r (λ us. Ok (apply_plan p us)) ts e in
     let is : apply_plan p q.0 ≡ ts = let f : Ok (apply_plan p q.0) ≡ Ok ts = q.1.1 in cc in

@@ -1,6 +1,6 @@
 -- A tiled nest has the kinds that tiling makes of its part's.
-use Rattle.std.proofs.Common.{◌≡◌, refl, sym, ap, ◌∙◌, subst, ℕ, zero, suc, ◌+◌, ◌-◌, ◌<◌, ◌≤◌, List, [], ◌∷◌, ◌++◌, map, length, take, drop, Some, Bool, true, false, ◌⊎◌, inl, inr, get_or, arith, length-append, length-drop}
-use Rattle.std.specs.Prelude.{◌==◌, if◌then◌else◌}
+use Rattle.std.proofs.Common.{◌≡◌, refl, sym, ap, ◌∙◌, subst, ℕ, zero, suc, ◌+◌, ◌-◌, ◌<◌, ◌≤◌, List, [], ◌∷◌, ◌++◌, map, length, take, drop, Some, Bool, false, ◌⊎◌, inl, inr, get_or, arith, length-append, length-drop}
+use Rattle.std.specs.Prelude.{◌||◌, ◌==◌}
 use Rattle.std.proofs.lemmas.Bool.{eq-eqb, ne_eqb}
 use Rattle.c_semantics.specs.Loops.IterationTrees.{Tree, members, widths, at_depth}
 use Rattle.c_semantics.specs.Loops.Transformations.{tile, div_up, rest, tiled}
@@ -9,7 +9,8 @@ use Rattle.canonical_nests.specs.declared.nest.CountKind.TheVariants.{Known, Ent
 use Rattle.canonical_nests.specs.Kinds as kinds
 use Rattle.canonical_nests.specs.Kinds.{Part, depends_on, moved, known_count, settled, kind_at, positions_below, chunk_kind, tile_kind, grid_kinds, tile_kinds}
 use Rattle.canonical_nests.specs.LoopRules.Counts.{depend_on_another}
-use Rattle.nest_counts.specs.HasKinds.{is_among, flags, IsLoop, turns, EachBelow, Related, SameTurns, HasCount, HasKinds}
+use Rattle.canonical_nests.specs.LoopRules.Clauses.{is_in}
+use Rattle.nest_counts.specs.HasKinds.{flags, IsLoop, turns, EachBelow, Related, SameTurns, HasCount, HasKinds}
 use Rattle.nest_counts.specs.Plans.{AllPositive}
 use Rattle.nest_counts.proofs.Ways.{none_flagged, each_both, each_more, each_below, each_above_below, free_of_each, each_of_free, related_split, related_join, related_more}
 use Rattle.nest_counts.proofs.Built.{Any, length_members, members_same, turns_loop}
@@ -59,12 +60,12 @@ module _ (k : ℕ) (ss : List ℕ) (ks : Part) (t : Tree) (has : HasKinds ks t) 
   low_flags m K l = flags_moved (positions_below k (tile ss)) k K (λ p z q. tile_low k ss p (omega (arith, q)))
 
   -- none of the other taken loops
-  taken_none : (j i : ℕ) → j < length ss → i < length ss → (i ≡ j → ⊥) → is_among (suc (k + i)) (depends_on (moved (positions_below k (tile ss)) (kind_at ks (k + j)))) ≡ false
+  taken_none : (j i : ℕ) → j < length ss → i < length ss → (i ≡ j → ⊥) → is_in (suc (k + i)) (depends_on (moved (positions_below k (tile ss)) (kind_at ks (k + j)))) ≡ false
   taken_none j i l m ne =
       among_moved (positions_below k (tile ss)) (suc (k + i)) (suc (k + i)) (kind_at ks (k + j)) (tile_low k ss (suc (k + i)) (omega arith))
       ∙ on_no_other k (length ss) ks enough apart j (suc (k + i)) l (omega arith) (omega arith) (λ s. ne (omega arith))
 
-  tile_none : (j i : ℕ) → j < length ss → i < length ss → (i ≡ j → ⊥) → is_among (suc (k + (length ss + i))) (depends_on (moved (positions_below k (tile ss)) (kind_at ks (k + j)))) ≡ false
+  tile_none : (j i : ℕ) → j < length ss → i < length ss → (i ≡ j → ⊥) → is_in (suc (k + (length ss + i))) (depends_on (moved (positions_below k (tile ss)) (kind_at ks (k + j)))) ≡ false
   tile_none j i l m ne =
       among_moved (positions_below k (tile ss)) (suc (k + (length ss + i))) (suc (k + i)) (kind_at ks (k + j)) (tile_high k ss (suc (k + (length ss + i))) (suc (k + i)) (omega arith) (omega arith))
       ∙ on_no_other k (length ss) ks enough apart j (suc (k + i)) l (omega arith) (omega arith) (λ s. ne (omega arith))
@@ -90,7 +91,7 @@ module _ (k : ℕ) (ss : List ℕ) (ks : Part) (t : Tree) (has : HasKinds ks t) 
       (λ a b z. ap (λ w. div_up w (get_or ss j 0)) z ∙ q.1.1) (free_of_each (λ u. turns u ≡ q.0) j x x (p.1.1 q.0 (sym (known_moved (positions_below k (tile ss)) K) ∙ q.1.0)))))
       (length_flags k (depends_on K))
       (ap (flags (k + j)) (chunk_deps (moved (positions_below k (tile ss)) K) (get_or ss j 0)) ∙ (flags_add k j (k + j) (depends_on (moved (positions_below k (tile ss)) K)) refl
-      ∙ (λ i. low_flags 0 K (omega arith) i ++ members_same j (λ a. is_among (suc (k + a)) (depends_on (moved (positions_below k (tile ss)) K))) (λ a. false) (λ a m. taken_none j a l (omega (arith, m, l)) (λ e. absurd (omega (arith, m, e)))) i)))
+      ∙ (λ i. low_flags 0 K (omega arith) i ++ members_same j (λ a. is_in (suc (k + a)) (depends_on (moved (positions_below k (tile ss)) K))) (λ a. false) (λ a m. taken_none j a l (omega (arith, m, l)) (λ e. absurd (omega (arith, m, e)))) i)))
       (near_taken j l)
       (λ x y p q r. grid_related SameTurns SameTurns (λ a b. a ≡ b) (λ a b. a ≡ b) (λ a b f g h. sym (turns_loop a f) ∙ (h ∙ turns_loop b g)) (λ a b f g h. turns_loop a f ∙ (h ∙ sym (turns_loop b g))) j ss pos l x y p.0 q.0
       (λ a b z. ap (λ w. div_up w (get_or ss j 0)) z) r)
@@ -130,25 +131,25 @@ module _ (k : ℕ) (ss : List ℕ) (ks : Part) (t : Tree) (has : HasKinds ks t) 
           (λ a b g h z q r f. ap (λ w. rest w (get_or ss i 0) g) z ∙ (fixed.each g (subst (λ w. g < div_up w (get_or ss i 0)) z q) ∙ s))
           (free_of_each (λ u. turns u ≡ fixed.count) i x x (p.1.1 fixed.count (sym (known_moved (positions_below k (tile ss)) (kind_at ks (k + i))) ∙ fixed.is_known)))))
 
-  varying_flags : (i : ℕ) → i < length ss → (L : CountKind) → ((p : ℕ) → is_among p (depends_on L) ≡ (if p == k + 1 + i then true else is_among p (depends_on (moved (positions_below k (tile ss)) (kind_at ks (k + i))))))
+  varying_flags : (i : ℕ) → i < length ss → (L : CountKind) → ((p : ℕ) → is_in p (depends_on L) ≡ (p == k + 1 + i || is_in p (depends_on (moved (positions_below k (tile ss)) (kind_at ks (k + i))))))
       → flags (k + (length ss + i)) (depends_on L) ≡ flags k (depends_on (kind_at ks (k + i))) ++ (one_flagged i (length ss) ++ none_flagged i)
   varying_flags i l L says =
       flags_add k (length ss + i) (k + (length ss + i)) (depends_on L) refl
-      ∙ (λ z. outer z ++ (members_add (length ss) i (length ss + i) (λ a. is_among (suc (k + a)) (depends_on L)) refl ∙ (λ y. grids y ++ tiles y)) z)
+      ∙ (λ z. outer z ++ (members_add (length ss) i (length ss + i) (λ a. is_in (suc (k + a)) (depends_on L)) refl ∙ (λ y. grids y ++ tiles y)) z)
     where
-      other : (p : ℕ) → (p ≡ k + 1 + i → ⊥) → is_among p (depends_on L) ≡ is_among p (depends_on (moved (positions_below k (tile ss)) (kind_at ks (k + i))))
-      other p ne = says p ∙ ap (λ b. if b then true else is_among p (depends_on (moved (positions_below k (tile ss)) (kind_at ks (k + i))))) (ne_eqb p (k + 1 + i) ne)
+      other : (p : ℕ) → (p ≡ k + 1 + i → ⊥) → is_in p (depends_on L) ≡ is_in p (depends_on (moved (positions_below k (tile ss)) (kind_at ks (k + i))))
+      other p ne = says p ∙ ap (λ b. b || is_in p (depends_on (moved (positions_below k (tile ss)) (kind_at ks (k + i))))) (ne_eqb p (k + 1 + i) ne)
 
       outer : flags k (depends_on L) ≡ flags k (depends_on (kind_at ks (k + i)))
-      outer = members_same k (λ a. is_among (suc a) (depends_on L)) (λ a. is_among (suc a) (depends_on (moved (positions_below k (tile ss)) (kind_at ks (k + i))))) (λ a m. other (suc a) (λ e. absurd (omega (arith, e, m)))) ∙ low_flags 0 (kind_at ks (k + i)) (omega arith)
+      outer = members_same k (λ a. is_in (suc a) (depends_on L)) (λ a. is_in (suc a) (depends_on (moved (positions_below k (tile ss)) (kind_at ks (k + i))))) (λ a m. other (suc a) (λ e. absurd (omega (arith, e, m)))) ∙ low_flags 0 (kind_at ks (k + i)) (omega arith)
 
-      grids : members (length ss) (λ a. is_among (suc (k + a)) (depends_on L)) ≡ one_flagged i (length ss)
-      grids = one_members (length ss) i (λ a. is_among (suc (k + a)) (depends_on L)) l
-          (says (suc (k + i)) ∙ ap (λ b. if b then true else is_among (suc (k + i)) (depends_on (moved (positions_below k (tile ss)) (kind_at ks (k + i))))) (eq-eqb (suc (k + i)) (k + 1 + i) (omega arith)))
+      grids : members (length ss) (λ a. is_in (suc (k + a)) (depends_on L)) ≡ one_flagged i (length ss)
+      grids = one_members (length ss) i (λ a. is_in (suc (k + a)) (depends_on L)) l
+          (says (suc (k + i)) ∙ ap (λ b. b || is_in (suc (k + i)) (depends_on (moved (positions_below k (tile ss)) (kind_at ks (k + i))))) (eq-eqb (suc (k + i)) (k + 1 + i) (omega arith)))
           (λ a m ne. other (suc (k + a)) (λ e. ne (omega (arith, e))) ∙ taken_none i a l m ne)
 
-      tiles : members i (λ a. is_among (suc (k + (length ss + a))) (depends_on L)) ≡ none_flagged i
-      tiles = members_same i (λ a. is_among (suc (k + (length ss + a))) (depends_on L)) (λ a. false)
+      tiles : members i (λ a. is_in (suc (k + (length ss + a))) (depends_on L)) ≡ none_flagged i
+      tiles = members_same i (λ a. is_in (suc (k + (length ss + a))) (depends_on L)) (λ a. false)
           (λ a m. other (suc (k + (length ss + a))) (λ e. absurd (omega (arith, e, m, l))) ∙ tile_none i a l (omega (arith, m, l)) (λ e. absurd (omega (arith, m, e))))
 
   varying_count : (i : ℕ) → i < length ss → Varies (k + 1 + i) (moved (positions_below k (tile ss)) (kind_at ks (k + i))) (get_or ss i 0) → HasCount (tile_kind (k + 1 + i) (moved (positions_below k (tile ss)) (kind_at ks (k + i))) (get_or ss i 0)) (k + (length ss + i)) (at_depth k (tiled ss) t)
@@ -181,15 +182,15 @@ module _ (k : ℕ) (ss : List ℕ) (ks : Part) (t : Tree) (has : HasKinds ks t) 
   -- ---- the loops below
 
   deep_flags : (m : ℕ) (K : CountKind) → later_flags k (length ss + (length ss + m)) (depends_on (moved (positions_below k (tile ss)) K))
-      ≡ later_flags k (length ss) (depends_on K) ++ (later_flags k (length ss) (depends_on K) ++ members m (λ a. is_among (suc (k + (length ss + a))) (depends_on K)))
+      ≡ later_flags k (length ss) (depends_on K) ++ (later_flags k (length ss) (depends_on K) ++ members m (λ a. is_in (suc (k + (length ss + a))) (depends_on K)))
   deep_flags m K =
-      members_add (length ss) (length ss + m) (length ss + (length ss + m)) (λ a. is_among (suc (k + a)) (depends_on (moved (positions_below k (tile ss)) K))) refl
-      ∙ (λ z. members_same (length ss) (λ a. is_among (suc (k + a)) (depends_on (moved (positions_below k (tile ss)) K))) (λ a. is_among (suc (k + a)) (depends_on K))
+      members_add (length ss) (length ss + m) (length ss + (length ss + m)) (λ a. is_in (suc (k + a)) (depends_on (moved (positions_below k (tile ss)) K))) refl
+      ∙ (λ z. members_same (length ss) (λ a. is_in (suc (k + a)) (depends_on (moved (positions_below k (tile ss)) K))) (λ a. is_in (suc (k + a)) (depends_on K))
       (λ a l. among_moved (positions_below k (tile ss)) (suc (k + a)) (suc (k + a)) K (tile_low k ss (suc (k + a)) (omega arith))) z
-      ++ (members_add (length ss) m (length ss + m) (λ a. is_among (suc (k + (length ss + a))) (depends_on (moved (positions_below k (tile ss)) K))) refl
-      ∙ (λ y. members_same (length ss) (λ a. is_among (suc (k + (length ss + a))) (depends_on (moved (positions_below k (tile ss)) K))) (λ a. is_among (suc (k + a)) (depends_on K))
+      ++ (members_add (length ss) m (length ss + m) (λ a. is_in (suc (k + (length ss + a))) (depends_on (moved (positions_below k (tile ss)) K))) refl
+      ∙ (λ y. members_same (length ss) (λ a. is_in (suc (k + (length ss + a))) (depends_on (moved (positions_below k (tile ss)) K))) (λ a. is_in (suc (k + a)) (depends_on K))
       (λ a l. among_moved (positions_below k (tile ss)) (suc (k + (length ss + a))) (suc (k + a)) K (tile_high k ss (suc (k + (length ss + a))) (suc (k + a)) (omega arith) (omega arith))) y
-      ++ members_same m (λ a. is_among (suc (k + (length ss + (length ss + a)))) (depends_on (moved (positions_below k (tile ss)) K))) (λ a. is_among (suc (k + (length ss + a))) (depends_on K))
+      ++ members_same m (λ a. is_in (suc (k + (length ss + (length ss + a)))) (depends_on (moved (positions_below k (tile ss)) K))) (λ a. is_in (suc (k + (length ss + a))) (depends_on K))
       (λ a l. among_moved (positions_below k (tile ss)) (suc (k + (length ss + (length ss + a)))) (suc (k + (length ss + a))) K
       (tile_high k ss (suc (k + (length ss + (length ss + a)))) (suc (k + (length ss + a))) (omega arith) (omega arith))) y)) z)
 
@@ -197,14 +198,14 @@ module _ (k : ℕ) (ss : List ℕ) (ks : Part) (t : Tree) (has : HasKinds ks t) 
   deep_count m l =
       let K : CountKind = kind_at ks (k + (length ss + m)) in
       let b : List Bool = later_flags k (length ss) (depends_on K) in
-      let c : List Bool = members m (λ a. is_among (suc (k + (length ss + a))) (depends_on K)) in
-      let lb : length b ≡ length ss = length_members (length ss) (λ a. is_among (suc (k + a)) (depends_on K)) in
+      let c : List Bool = members m (λ a. is_in (suc (k + (length ss + a))) (depends_on K)) in
+      let lb : length b ≡ length ss = length_members (length ss) (λ a. is_in (suc (k + a)) (depends_on K)) in
       count_moved K (moved (positions_below k (tile ss)) K) (tiled ss) k (length ss + m) (length ss + (length ss + m)) (k + (length ss + m)) (k + (length ss + (length ss + m))) t (IsRect (length ss)) refl refl (has (k + (length ss + m)) l) rects
       (known_moved (positions_below k (tile ss)) K) (low_flags 0 K (omega arith))
       (λ x r h. each_twice IsLoop ss m x pos r h)
       (λ v x r h. each_twice (λ u. turns u ≡ v) ss m x pos r h)
       (λ x y p q h.
-      let h' : Related (Related SameTurns c) b x y = related_split SameTurns b c x y (subst (λ bs. Related SameTurns bs x y) (members_add (length ss) m (length ss + m) (λ a. is_among (suc (k + a)) (depends_on K)) refl) h) in
+      let h' : Related (Related SameTurns c) b x y = related_split SameTurns b c x y (subst (λ bs. Related SameTurns bs x y) (members_add (length ss) m (length ss + m) (λ a. is_in (suc (k + a)) (depends_on K)) refl) h) in
       let twice : Related (Related (Related SameTurns c) b) b (tiled ss x) (tiled ss y) = tiled_below (Related SameTurns c) b ss x y pos lb p q (length_members (length ss) _) (length_members (length ss) _) h' in
       subst (λ bs. Related SameTurns bs (tiled ss x) (tiled ss y)) (sym (deep_flags m K))
       (related_join SameTurns b (b ++ c) (tiled ss x) (tiled ss y)

@@ -1,13 +1,13 @@
 -- Where tiling puts loops, and what the kinds of its loops say.
 use Rattle.std.proofs.Common.{◌≡◌, refl, sym, ap, ◌∙◌, ℕ, zero, suc, ◌+◌, ◌-◌, ◌%◌, ◌<◌, ◌≤◌, List, [], ◌∷◌, ◌++◌, map, length, Some, None, Bool, true, false, ◌⊎◌, inl, inr, get_or, arith}
-use Rattle.std.specs.Prelude.{◌==◌, nat_le, if◌then◌else◌}
+use Rattle.std.specs.Prelude.{◌||◌, ◌==◌, nat_le, if◌then◌else◌}
 use Rattle.std.proofs.lemmas.Bool.{eqb-true, eq-eqb, ne_eqb, leb-true, leb-false}
 use Rattle.c_semantics.specs.Loops.IterationTrees.{members}
 use Rattle.c_semantics.specs.Loops.Transformations.{tile, div_up, rest}
 use Rattle.canonical_nests.specs.declared.nest.CountKind.{CountKind}
 use Rattle.canonical_nests.specs.declared.nest.CountKind.TheVariants.{Known, Entry, Depends}
 use Rattle.canonical_nests.specs.Kinds.{Part, depends_on, known_count, kind_at, positions_below, on_positions, chunk_kind, tile_kind, grid_kinds, tile_kinds}
-use Rattle.nest_counts.specs.HasKinds.{is_among}
+use Rattle.canonical_nests.specs.LoopRules.Clauses.{is_in}
 use Rattle.nest_counts.proofs.Built.{members_same}
 use Rattle.nest_counts.proofs.Sizes.{whole_tile, only_tile}
 use Rattle.nest_counts.proofs.Places.{ComesFrom, among_on, known_on}
@@ -15,17 +15,17 @@ use Rattle.nest_counts.proofs.Tile.{one_flagged}
 
 -- ---- positions
 
-pub one_of : (p a q r : ℕ) → (p ≡ a → q ≡ r) → (q ≡ r → p ≡ a) → (if p == a then true else false) ≡ (q == r)
+pub one_of : (p a q r : ℕ) → (p ≡ a → q ≡ r) → (q ≡ r → p ≡ a) → (p == a || false) ≡ (q == r)
 one_of p a q r f g = by (p == a) refl
   where
-    by : (b : Bool) → (p == a) ≡ b → (if b then true else false) ≡ (q == r)
+    by : (b : Bool) → (p == a) ≡ b → (b || false) ≡ (q == r)
     by true e = sym (eq-eqb q r (f (eqb-true p a e)))
     by false e = sym (ne_eqb q r (λ s. absurd (let t : (p == a) ≡ true = eq-eqb p a (g s) in cc)))
 
-pub two_of : (p a b q r : ℕ) → (p ≡ a → q ≡ r) → (p ≡ b → q ≡ r) → (q ≡ r → (p ≡ a) ⊎ (p ≡ b)) → (if p == a then true else if p == b then true else false) ≡ (q == r)
+pub two_of : (p a b q r : ℕ) → (p ≡ a → q ≡ r) → (p ≡ b → q ≡ r) → (q ≡ r → (p ≡ a) ⊎ (p ≡ b)) → (p == a || (p == b || false)) ≡ (q == r)
 two_of p a b q r f g h = by (p == a) refl (p == b) refl
   where
-    by : (x : Bool) → (p == a) ≡ x → (y : Bool) → (p == b) ≡ y → (if x then true else if y then true else false) ≡ (q == r)
+    by : (x : Bool) → (p == a) ≡ x → (y : Bool) → (p == b) ≡ y → (x || (y || false)) ≡ (q == r)
     by true e y d = sym (eq-eqb q r (f (eqb-true p a e)))
     by false e true d = sym (eq-eqb q r (g (eqb-true p b d)))
     by false e false d = sym (ne_eqb q r (λ s. neither (h s)))
@@ -38,7 +38,7 @@ pub tile_low : (k : ℕ) (ss : List ℕ) (p : ℕ) → p ≤ k + length ss → C
 tile_low k ss p l r = by (nat_le r k) refl (nat_le (r - k) (length ss)) refl
   where
     by : (b : Bool) → nat_le r k ≡ b → (c : Bool) → nat_le (r - k) (length ss) ≡ c
-        → is_among p (if b then r ∷ [] else map (λ q. k + q) (if c then (r - k) ∷ (length ss + (r - k)) ∷ [] else (length ss + (r - k)) ∷ [])) ≡ (p == r)
+        → is_in p (if b then r ∷ [] else map (λ q. k + q) (if c then (r - k) ∷ (length ss + (r - k)) ∷ [] else (length ss + (r - k)) ∷ [])) ≡ (p == r)
     by true e c d = one_of p r p r (λ s. s) (λ s. s)
     by false e true d =
         let far : k < r = leb-false r k e in
@@ -52,7 +52,7 @@ pub tile_high : (k : ℕ) (ss : List ℕ) (p q : ℕ) → p ≡ q + length ss �
 tile_high k ss p q at l r = by (nat_le r k) refl (nat_le (r - k) (length ss)) refl
   where
     by : (b : Bool) → nat_le r k ≡ b → (c : Bool) → nat_le (r - k) (length ss) ≡ c
-        → is_among p (if b then r ∷ [] else map (λ q. k + q) (if c then (r - k) ∷ (length ss + (r - k)) ∷ [] else (length ss + (r - k)) ∷ [])) ≡ (q == r)
+        → is_in p (if b then r ∷ [] else map (λ q. k + q) (if c then (r - k) ∷ (length ss + (r - k)) ∷ [] else (length ss + (r - k)) ∷ [])) ≡ (q == r)
     by true e c d =
         let close : r ≤ k = leb-true r k e in
         one_of p r q r (λ s. absurd (omega arith)) (λ s. absurd (omega arith))
@@ -118,7 +118,7 @@ pub record Fixed (g : ℕ) (M : CountKind) (s : ℕ) : Type 0 where
 
 pub record Varies (g : ℕ) (M : CountKind) (s : ℕ) : Type 0 where
   pub unknown : known_count (tile_kind g M s) ≡ None
-  pub among : (p : ℕ) → is_among p (depends_on (tile_kind g M s)) ≡ (if p == g then true else is_among p (depends_on M))
+  pub among : (p : ℕ) → is_in p (depends_on (tile_kind g M s)) ≡ (p == g || is_in p (depends_on M))
 
 -- of a known count each tile is as wide, or the width depends on the grid loop too
 pub tile_says : (g : ℕ) (M : CountKind) (s : ℕ) → 0 < s → Fixed g M s ⊎ Varies g M s
@@ -138,8 +138,8 @@ tile_says g (Known c) s pos = by (nat_le c s) refl (c % s == 0) refl
     })
     by false e false d = inr (record {
       unknown = ap (λ x. known_count (if x then Known c else if c % s == 0 then Known s else on_positions (g ∷ []))) e ∙ (ap (λ x. known_count (if x then Known s else on_positions (g ∷ []))) d ∙ known_on (g ∷ []));
-      among = λ p. ap (λ x. is_among p (depends_on (if x then Known c else if c % s == 0 then Known s else on_positions (g ∷ [])))) e
-          ∙ (ap (λ x. is_among p (depends_on (if x then Known s else on_positions (g ∷ [])))) d ∙ among_on p (g ∷ []));
+      among = λ p. ap (λ x. is_in p (depends_on (if x then Known c else if c % s == 0 then Known s else on_positions (g ∷ [])))) e
+          ∙ (ap (λ x. is_in p (depends_on (if x then Known s else on_positions (g ∷ [])))) d ∙ among_on p (g ∷ []));
     })
 
 -- ---- one flag

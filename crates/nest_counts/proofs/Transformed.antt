@@ -9,7 +9,8 @@ use Rattle.canonical_nests.specs.declared.nest.CountKind.{CountKind}
 use Rattle.canonical_nests.specs.declared.nest.CountKind.TheVariants.{Entry}
 use Rattle.canonical_nests.specs.Kinds as kinds
 use Rattle.canonical_nests.specs.Kinds.{Part, no_part, depends_on, moved, known_count, settled, kind_at, positions_below, same_kind, split_kinds, part_kinds, transformed_kinds, fused_kind, fused_parts}
-use Rattle.nest_counts.specs.HasKinds.{is_among, flags, turns, HasKinds}
+use Rattle.canonical_nests.specs.LoopRules.Clauses.{is_in}
+use Rattle.nest_counts.specs.HasKinds.{flags, turns, HasKinds}
 use Rattle.nest_counts.specs.Plans.{FindsParts, PartsHave, Beside}
 use Rattle.nest_counts.proofs.Built.{turns_loop}
 use Rattle.nest_counts.proofs.Places.{kind_drop, kind_map, known_moved, flags_moved}
@@ -25,7 +26,7 @@ use Rattle.std.specs.Prelude.{◌==◌, nat_le, if◌then◌else◌}
 
 -- ---- transformations that leave loops at their places
 
-stays_here : (k : ℕ) (p r : ℕ) → 0 < p → (b : Bool) → nat_le r k ≡ b → is_among p (if b then r ∷ [] else map (λ q. k + q) ((r - k) ∷ [])) ≡ (p == r)
+stays_here : (k : ℕ) (p r : ℕ) → 0 < p → (b : Bool) → nat_le r k ≡ b → is_in p (if b then r ∷ [] else map (λ q. k + q) ((r - k) ∷ [])) ≡ (p == r)
 stays_here k p r z true e = one_of p r p r (λ s. s) (λ s. s)
 stays_here k p r z false e = let far : k < r = leb-false r k e in one_of p (k + (r - k)) p r (λ s. omega arith) (λ s. omega arith)
 

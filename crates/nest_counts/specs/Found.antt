@@ -15,6 +15,12 @@ abbrev pub AllReach : ℕ → List Part → Type 0
 AllReach k [] = Unit {0}
 AllReach k (p ∷ ps) = k ≤ length p × AllReach k ps
 
+-- as many numbers, each no less
+abbrev pub EachAtMost : List ℕ → List ℕ → Type 0
+EachAtMost [] [] = Unit {0}
+EachAtMost (k ∷ ks) (l ∷ ls) = k ≤ l × EachAtMost ks ls
+EachAtMost _ _ = ⊥
+
 -- sizes are at least 1, and a permutation is one
 abbrev pub ArgumentFits : Transformation → Type 0
 ArgumentFits (tile ss) = AllPositive ss

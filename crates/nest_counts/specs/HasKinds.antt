@@ -1,9 +1,10 @@
 -- What the kinds of counts of a part say of an iteration tree (OpenMP 6.0, 6.4.1: the counts of a canonical loop nest; 11:
 -- of the generated loops). The loop at a position of the part is every tree as many loops down as loops stand round it.
-use Rattle.std.specs.Prelude.{ℕ, zero, suc, ◌≡◌, ◌<◌, List, [], ◌∷◌, length, Some, Bool, true, false, ◌==◌, if◌then◌else◌}
+use Rattle.std.specs.Prelude.{ℕ, zero, suc, ◌≡◌, ◌<◌, List, [], ◌∷◌, length, Some, Bool, true}
 use Rattle.c_semantics.specs.Loops.IterationTrees.{Tree, loop, children, nth, members}
 use Rattle.canonical_nests.specs.declared.nest.CountKind.{CountKind}
 use Rattle.canonical_nests.specs.Kinds.{Part, kind_at, known_count, depends_on}
+use Rattle.canonical_nests.specs.LoopRules.Clauses.{is_in}
 
 abbrev pub IsLoop : Tree → Type 0
 IsLoop (loop ts) = Unit {0}
@@ -21,13 +22,9 @@ abbrev pub EachBelow : (Tree → Type 0) → ℕ → Tree → Type 0
 EachBelow P zero t = P t
 EachBelow P (suc n) t = (i : ℕ) → i < turns t → EachBelow P n (child t i)
 
-abbrev pub is_among : ℕ → List ℕ → Bool
-is_among p [] = false
-is_among p (q ∷ qs) = if p == q then true else is_among p qs
-
 -- which of the first n positions are among these
 abbrev pub flags : ℕ → List ℕ → List Bool
-flags n ps = members n (λ i. is_among (suc i) ps)
+flags n ps = members n (λ i. is_in (suc i) ps)
 
 -- The trees that two ways lead to are related, wherever the two ways have the same index in each loop that is flagged.
 -- Such ways also find each flagged loop with as many turns.

@@ -1,12 +1,14 @@
 -- What the kinds of counts of a part say of the trees that have them.
-use Rattle.std.specs.Prelude.{ℕ, ◌≡◌, ◌+◌, ◌<◌, ◌≤◌, List, length, Ok, Some, true, false, get_or}
+use Rattle.std.specs.Prelude.{ℕ, suc, ◌≡◌, ◌+◌, ◌<◌, ◌≤◌, List, [], ◌∷◌, length, Ok, Some, true, false, get_or}
 use Rattle.c_tree.specs.Bare.{Directive, Stmts}
 use Rattle.c_tree.specs.Placed as placed
+use Rattle.c_tree.specs.Forget.{forget_stmt, forget_directive}
 use Rattle.c_semantics.specs.Meaning.State.{State}
 use Rattle.c_semantics.specs.Meaning.Expressions.{Define}
 use Rattle.c_semantics.specs.Meaning.FileVariables.{FunctionAccess}
 use Rattle.c_semantics.specs.Loops.Directives.{plan_of}
-use Rattle.c_semantics.specs.Loops.Need.{depths, loops_asked}
+use Rattle.c_semantics.specs.Loops.Need.{depths, all_at_least, loops_asked}
+use Rattle.c_semantics.specs.Loops.StatementDepths.{stmt_depths}
 use Rattle.c_semantics.specs.Loops.Forest.{forest}
 use Rattle.c_semantics.specs.Loops.IterationTrees.{Tree, widths, pick, build}
 use Rattle.c_semantics.specs.Loops.Transformations.{Plan, apply_plan}
@@ -17,12 +19,14 @@ use Rattle.nest_counts.specs.HasKinds.{HasKinds, IsLoop, turns, EachBelow}
 use Rattle.canonical_nests.specs.Shapes.{body_kinds}
 use Rattle.canonical_nests.specs.LoopRules.BreachSets.{HasNone}
 use Rattle.canonical_nests.specs.LoopRules.PlacedPlans.{PlacedPlan, forget_plan}
+use Rattle.canonical_nests.specs.LoopRules.Clauses as clauses
 use Rattle.canonical_nests.specs.LoopRules.Clauses.{all_different}
 use Rattle.canonical_nests.specs.LoopRules.Counts as counts
 use Rattle.canonical_nests.specs.LoopRules.Heads as heads
+use Rattle.canonical_nests.specs.LoopRules.Structure as structure
 use Rattle.nest_counts.specs.Plans.{IsOrder, Finds, PartsHave, Beside}
 use Rattle.nest_counts.specs.Statements.{ConstructFinds}
-use Rattle.nest_counts.specs.Found.{ArgumentsFit, lengths_below}
+use Rattle.nest_counts.specs.Found.{ArgumentsFit, IsNoFuse, EachAtMost, lengths_below}
 use Rattle.nest_counts.specs.Bounds.{ConstructBounds}
 
 -- where the count of a loop is known, every tree at its depth is a loop of that many turns
@@ -62,6 +66,39 @@ abbrev pub RulesFindLoops : Type 0
 RulesFindLoops =
     (p : PlacedPlan) (ps : List Part) (es : List ℕ) → ArgumentsFit (forget_plan p) → 0 < length ps →
     depths (forget_plan p) (lengths_below 0 ps) ≡ Some es → HasNone (counts.plan_breaches p 0 ps) → Finds (forget_plan p) 0 ps
+
+-- a directive and its items find enough loops over a part of which they break no rule of structure
+abbrev pub StructureFindsLoops : Type 0
+StructureFindsLoops = (p : PlacedPlan) (k : ℕ) → HasNone (structure.plan_breaches p k) → (es : List ℕ) × (depths (forget_plan p) (k ∷ []) ≡ Some es)
+
+-- they still do over deeper parts, and give as many parts, each no less deep
+abbrev pub DeeperBodiesServe : Type 0
+DeeperBodiesServe = (p : Plan) (ks ls es : List ℕ) → EachAtMost ks ls → depths p ks ≡ Some es → (fs : List ℕ) × ((depths p ls ≡ Some fs) × EachAtMost es fs)
+
+-- where a directive over a part of depth k gives parts of depth m at least, it asks for no more than k loops when m are
+-- wanted of each, and over any part that has as many as it asks for it gives as many parts, of depth m at least
+abbrev pub AskedLoopsSuffice : Type 0
+AskedLoopsSuffice =
+    (p : Plan) (m k l : ℕ) (es : List ℕ) → IsNoFuse p → depths p (k ∷ []) ≡ Some es → all_at_least m es ≡ true →
+    (loops_asked p m ≤ k)
+    × (loops_asked p m ≤ l → (fs : List ℕ) × ((depths p (l ∷ []) ≡ Some fs) × ((length fs ≡ length es) × (all_at_least m fs ≡ true))))
+
+-- so it and its items find what they take in a part that has the loops that it asks for, and in which they break no rule
+-- of counts
+abbrev pub DirectivesFindAsked : Type 0
+DirectivesFindAsked =
+    (p : PlacedPlan) (m k : ℕ) (es : List ℕ) (ks : Part) → IsNoFuse (forget_plan p) → ArgumentsFit (forget_plan p) → depths (forget_plan p) (k ∷ []) ≡ Some es →
+    all_at_least m es ≡ true → loops_asked (forget_plan p) m ≤ length ks → HasNone (counts.plan_breaches p 0 (ks ∷ [])) → Finds (forget_plan p) 0 (ks ∷ [])
+
+-- a `for` or a directive gives loops where no directive that has to give loops breaks a rule of structure
+abbrev pub LoopsGiveDepths : Type 0
+LoopsGiveDepths =
+    (ds : List Define) (m : ℕ) (a : placed.Stmt) → structure.is_loop a ≡ true → HasNone (structure.stmt_breaches ds (suc m) a) →
+    (es : List ℕ) × (stmt_depths ds (forget_stmt a) ≡ Some es)
+
+-- where a directive and its items break no rule of clauses, their arguments fit
+abbrev pub ArgumentsOfRulesFit : Type 0
+ArgumentsOfRulesFit = (ds : List Define) (d : placed.Directive) → HasNone (clauses.directive_breaches ds d) → ArgumentsFit (plan_of ds (forget_directive d))
 
 -- numbers that a permutation may have, as the rules of clauses say, are an order
 abbrev pub PermutationsAreOrders : Type 0

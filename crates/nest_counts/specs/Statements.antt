@@ -21,9 +21,14 @@ pub record SaysAlike (ds : List Define) (scope s : State) (h : Head) : Type 0 wh
   pub types : (c : Canonical) → canonical ds h ≡ Some c → loop_type ds scope c ≡ loop_type ds s c
 
 -- what `fuse` finds in its body, and what any other directive finds
-abbrev pub found_by : Kind → Type 0 → Type 0 → Type 0
-found_by Fuse one all = all
-found_by _ one all = one
+abbrev pub FoundBy : Kind → Type 0 → Type 0 → Type 0
+FoundBy Fuse one all = all
+FoundBy _ one all = one
+
+-- a directive that wants n loops of its body, where One says what the one statement there finds, and All what all members do
+abbrev pub DirectiveFinds : List Define → State → ℕ → Directive → Stmts → Type 0 → Type 0 → Type 0
+DirectiveFinds ds scope n d a One All =
+    FoundBy (kind_of d) (One × (0 < length (single_kinds ds scope n a))) All × Finds (plan_of ds d) 0 (body_kinds ds scope n d a)
 
 abbrev pub IsLoopStmt : Stmt → Type 0
 IsLoopStmt (for_ h a) = Unit {0}
@@ -39,9 +44,7 @@ module _ (ds : List Define) (s : State) where
         SaysAlike ds scope s (head i o next) × SingleFinds (scope_in i scope) m a
     StmtFinds scope (suc m) (block a) = SingleFinds scope (suc m) a
     StmtFinds scope (suc m) (omp d a) =
-        let n = loops_asked (plan_of ds d) (suc m) in
-        found_by (kind_of d) (SingleFinds scope n a × (0 < length (single_kinds ds scope n a))) (MembersFind scope n a)
-        × Finds (plan_of ds d) 0 (body_kinds ds scope n d a)
+        let n = loops_asked (plan_of ds d) (suc m) in DirectiveFinds ds scope n d a (SingleFinds scope n a) (MembersFind scope n a)
     StmtFinds scope (suc m) _ = Unit {0}
 
     pub SingleFinds : State → ℕ → Stmts → Type 0
@@ -56,6 +59,4 @@ module _ (ds : List Define) (s : State) where
 -- of a construct
 abbrev pub ConstructFinds : List Define → State → State → Directive → Stmts → Type 0
 ConstructFinds ds s scope d a =
-    let n = loops_asked (plan_of ds d) 0 in
-    found_by (kind_of d) (SingleFinds ds s scope n a × (0 < length (single_kinds ds scope n a))) (MembersFind ds s scope n a)
-    × Finds (plan_of ds d) 0 (body_kinds ds scope n d a)
+    let n = loops_asked (plan_of ds d) 0 in DirectiveFinds ds scope n d a (SingleFinds ds s scope n a) (MembersFind ds s scope n a)

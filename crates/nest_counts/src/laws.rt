@@ -1,6 +1,6 @@
 //! What the kinds of counts say of the trees of a construct.
 
-ghost use Rattle.nest_counts.specs.Laws.{BoundsAreInvariant, ConstructsHaveKinds, DirectivesKeepKinds, KnownCountsHold, PermutationsAreOrders, RulesFindLoops, TakenLoopsAreRectangular};
+ghost use Rattle.nest_counts.specs.Laws.{ArgumentsOfRulesFit, AskedLoopsSuffice, BoundsAreInvariant, ConstructsHaveKinds, DeeperBodiesServe, DirectivesFindAsked, DirectivesKeepKinds, KnownCountsHold, LoopsGiveDepths, PermutationsAreOrders, RulesFindLoops, StructureFindsLoops, TakenLoopsAreRectangular};
 
 /// Where the count of a loop is known, every tree at its depth is a loop of that many turns.
 pub fn known_counts_hold()
@@ -39,4 +39,37 @@ pub fn rules_find_loops()
 /// As many different numbers from 1 to n as n, and n isn't 0, are an order of n loops.
 pub fn permutations_are_orders()
     ensures { PermutationsAreOrders }
+{}
+
+/// In a directive that breaks no rule of clauses, sizes are at least 1, a permutation is one, no item is `fuse`, and each
+/// item's arguments fit.
+pub fn arguments_of_rules_fit()
+    ensures { ArgumentsOfRulesFit }
+{}
+
+/// Over a part of which a directive and its items break no rule of structure, they find enough loops.
+pub fn structure_finds_loops()
+    ensures { StructureFindsLoops }
+{}
+
+/// Over deeper parts a directive and its items still find enough loops, and give as many parts, each no less deep.
+pub fn deeper_bodies_serve()
+    ensures { DeeperBodiesServe }
+{}
+
+/// Where a directive other than `fuse` gives parts as deep as is wanted of it, its body has the loops that it asks for, and
+/// over any part that has as many it gives as many parts, each as deep as is wanted.
+pub fn asked_loops_suffice()
+    ensures { AskedLoopsSuffice }
+{}
+
+/// So a directive other than `fuse` and its items find the loops that they take in a part that has the loops that it asks
+/// for, where they break no rule of counts there.
+pub fn directives_find_asked()
+    ensures { DirectivesFindAsked }
+{}
+
+/// A `for` or a directive gives loops where no directive that has to give loops breaks a rule of structure.
+pub fn loops_give_depths()
+    ensures { LoopsGiveDepths }
 {}

@@ -1,18 +1,18 @@
 -- Loops of a known count: at each place of a tree, and with a new name for their counter.
-use Rattle.std.specs.Prelude.{◌≡◌, ℕ, zero, suc, ◌<◌, List, [], ◌∷◌, length, Result, Ok, Err, Option, Some, None, true}
+use Rattle.std.specs.Prelude.{◌≡◌, ℕ, zero, suc, List, [], ◌∷◌, Result, Ok, Err, Option, Some, None, true}
 use Rattle.c_tree.specs.Bare.{Name, Stmts}
 use Rattle.c_tree.specs.declared.arithmetic.Trap.{Trap}
 use Rattle.c_semantics.specs.Meaning.State.{Var, find}
-use Rattle.c_semantics.specs.Loops.IterationTrees.{Tree, children, nth}
+use Rattle.c_semantics.specs.Loops.IterationTrees.{Tree}
 use Rattle.c_semantics.specs.Laws.Apart.{Differ}
 use Rattle.loop_normal.specs.Gens.{GenLoop, gen_loop, Nest, Seq}
 use Rattle.loop_normal.specs.Denotes.{Undeclared}
+use Rattle.nest_counts.specs.HasKinds.{turns, EachBelow}
 use Rattle.nest_normal.specs.NestTexts.{zero_at}
 
--- each tree that is d trees down has k children
+-- each tree so many loops down turns k times
 abbrev pub Turns : ℕ → ℕ → Tree → Type 0
-Turns zero k t = length (children t) ≡ k
-Turns (suc d) k t = (i : ℕ) → i < length (children t) → Turns d k (nth i (children t))
+Turns d k = EachBelow (λ u. turns u ≡ k) d
 
 abbrev pub EachTurns : ℕ → ℕ → List Tree → Type 0
 EachTurns d k [] = Unit {0}

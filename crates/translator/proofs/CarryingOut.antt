@@ -1,5 +1,5 @@
 -- A program with its directives carried out does what the program does.
-use Rattle.std.proofs.Common.{◌≡◌, ℕ, ◌≤◌, Bool, true, ◌&&◌, [], ◌∷◌, Some, None, refl, sym, ◌∙◌, ap, subst, inl, inr, arith}
+use Rattle.std.proofs.Common.{◌≡◌, ◌≤◌, Bool, true, ◌&&◌, [], ◌∷◌, Some, None, refl, sym, ◌∙◌, subst, inl, inr, arith}
 use Rattle.c_tree.specs.Bare.{Stmt, decl, set, step, print, input, if_, if_else, while_, do_, for_, block, break_, continue_, empty, omp, call, Stmts, no_stmts, more_stmts, head, MaybeStmt, no_stmt, a_stmt, define, extern_, global, function, main, Program}
 use Rattle.c_tree.specs.Placed as placed
 use Rattle.c_tree.specs.Checked.{most_height}
@@ -18,9 +18,7 @@ use Rattle.apply_rewrite.proofs.Items.{good_items}
 use Rattle.apply_rewrite.proofs.SourceNames.{source_spent}
 use Rattle.apply_rewrite.proofs.Skeletons.{same_skeleton}
 use Rattle.apply_rewrite.proofs.WellFormedCode.{stays_well_formed}
-use Rattle.translator.specs.Answers.{IsReversible, IsBuilt, StandsFor, IsUnbuilt, CannotBeReversed, CarriesOut}
-use Rattle.translator.specs.declared.refusal.Refusal.{Refusal}
-use Rattle.translator.specs.declared.refusal.Refusal.TheVariants.{Lex, Parse, Names, NotBuilt, Memory}
+use Rattle.translator.specs.Answers.{IsReversible, IsBuilt, StandsFor, CarriesOut}
 use Rattle.translator.proofs.Plain.{plain_program, plain_holds_none}
 
 both : (a b : Bool) → a ≡ true → b ≡ true → (a && b) ≡ true
@@ -106,15 +104,3 @@ stands p q well names height (inr h) =
 pub built : (p : placed.Program) (q : Program) → StandsFor p q → IsBuilt p
 built p q (inl h) = inl h.0
 built p q (inr h) = inr h.2
-
--- a directive that can't be carried out is refused
-pub unbuilt : (p : placed.Program) (place : ℕ) (refusal : Refusal) → first_directive p ≡ Some place → CannotBeReversed refusal place (forget_program p) → IsUnbuilt refusal p
-unbuilt p place (NotBuilt at) found h = (found ∙ ap Some (sym h.0), neither)
-  where
-    neither : IsBuilt p → ⊥
-    neither (inl none) = absurd (let some : Some place ≡ None = sym found ∙ none in cc)
-    neither (inr r) = h.1 r
-unbuilt p place Memory found h = tt
-unbuilt p place (Lex kind at) found h = absurd h
-unbuilt p place (Parse kind at) found h = absurd h
-unbuilt p place (Names rule at) found h = absurd h

@@ -9,8 +9,9 @@ use Rattle.c_printer.proofs.OneReading.{one_reading}
 use Rattle.c_soundness.specs.NameBreaches.{BreaksNone}
 use Rattle.c_soundness.proofs.Unplaced.{breaches_without_places}
 use Rattle.c_meaning.specs.Plain.{is_plain}
-use Rattle.translator.specs.Answers.{SpellsChecked, IsTranslation, IsAccepted}
+use Rattle.translator.specs.Answers.{SpellsChecked, SpellsAdmitted, IsTranslation, IsAccepted}
 use Rattle.translator.proofs.Plain.{plain_holds_none}
+use Rattle.translator.proofs.Unbroken.{unbroken_without_directives}
 
 pub given_back : (text written again : List ℕ) → IsTranslation text written → IsTranslation written again → again ≡ written
 given_back text written again t u =
@@ -29,4 +30,6 @@ accepted_again text written t =
       tree = (items, back.spelled.spelled, sym back.spelled.same, (deep_where_above items).1 within);
       names = (breaches_without_places q).1 (subst BreaksNone (sym back.same) t.tree.names);
     } in
-    (back.tokens, q, back.cut, checked, inl (plain_holds_none q (subst (λ b. is_plain b ≡ true) (sym back.same) t.tree.carried_out.plain)))
+    let none = plain_holds_none q (subst (λ b. is_plain b ≡ true) (sym back.same) t.tree.carried_out.plain) in
+    let admitted : SpellsAdmitted back.tokens q = record { checked = checked; loops = unbroken_without_directives q none } in
+    (back.tokens, q, back.cut, admitted, inl none)

@@ -15,7 +15,7 @@ use Rattle.c_printer.specs.Programs.{printed}
 use Rattle.c_printer.specs.ReadsBack.{Reads}
 use Rattle.c_printer.proofs.ReadsBack.{reads_back}
 use Rattle.c_soundness.proofs.Unplaced.{breaches_without_places}
-use Rattle.translator.specs.Answers.{SpellsChecked, StandsFor, IsTranslation, IsTranslatedTree, IsAccepted}
+use Rattle.translator.specs.Answers.{SpellsChecked, SpellsAdmitted, StandsFor, IsTranslation, IsTranslatedTree, IsAccepted}
 use Rattle.translator.proofs.CarryingOut.{Stands, stands, built}
 
 pub either_way : {A E : Type 0} (r : Result A E) (P : A → Type 0) (Q : E → Type 0) → IfOk r P → IfErr r Q → MatchResult r P Q
@@ -37,12 +37,12 @@ height_within tokens p s = subst (λ q. program_height (forget_program q) ≤ 25
 standing : (text : List ℕ) (tokens : List Token) (p : placed.Program) (q : Program) → Cut text tokens → SpellsChecked tokens p → StandsFor p q → Stands p q
 standing text tokens p q cut s h = stands p q (well_formed text tokens p cut s) ((breaches_without_places p).0 s.names) (height_within tokens p s) h
 
-pub translated_tree : (text : List ℕ) (tokens : List Token) (p : placed.Program) (q : Program) → Cut text tokens → SpellsChecked tokens p → StandsFor p q → IsTranslatedTree text q
+pub translated_tree : (text : List ℕ) (tokens : List Token) (p : placed.Program) (q : Program) → Cut text tokens → SpellsAdmitted tokens p → StandsFor p q → IsTranslatedTree text q
 translated_tree text tokens p q cut s h =
-    let k = standing text tokens p q cut s h in
-    record { source = forget_program p; reads = reads text tokens p cut s; carried_out = k.carried_out; unchanged = k.unchanged; names = k.names; height = k.height }
+    let k = standing text tokens p q cut s.checked h in
+    record { source = forget_program p; reads = reads text tokens p cut s.checked; carried_out = k.carried_out; unchanged = k.unchanged; names = k.names; height = k.height }
 
-pub accepted : (text : List ℕ) (tokens : List Token) (p : placed.Program) (q : Program) → Cut text tokens → SpellsChecked tokens p → StandsFor p q → IsAccepted text
+pub accepted : (text : List ℕ) (tokens : List Token) (p : placed.Program) (q : Program) → Cut text tokens → SpellsAdmitted tokens p → StandsFor p q → IsAccepted text
 accepted text tokens p q cut s h = (tokens, p, cut, s, built p q h)
 
 pub translation : (text : List ℕ) (q : Program) (written : List ℕ) → WellFormed q → IsTranslatedTree text q → written ≡ printed q → IsTranslation text written

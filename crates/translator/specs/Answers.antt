@@ -1,5 +1,6 @@
 -- The answer for a text: why it is refused, which is the first that applies; or what it is translated to.
-use Rattle.std.specs.Prelude.{◌≡◌, ℕ, ◌≤◌, ℤ, List, Some, None, true, ◌⊎◌}
+use Rattle.std.specs.Prelude.{◌≡◌, ℕ, ◌≤◌, ℤ, List, Option, Some, None, true, ◌⊎◌}
+use Rattle.std.specs.Option.{option_or}
 use Rattle.c_tree.specs.Checked.{most_height}
 use Rattle.c_tree.specs.Height.{program_height}
 use Rattle.c_tree.specs.Bare.{Program}
@@ -17,11 +18,13 @@ use Rattle.c_semantics.specs.Meaning.Programs.{outcome, turns_of}
 use Rattle.c_semantics.specs.Structure.Skeleton.{skeleton}
 use Rattle.c_meaning.specs.Plain.{is_plain}
 use Rattle.c_soundness.specs.NameBreaches.{BreaksNone}
-use Rattle.canonical_nests.specs.LoopRules.Programs.{first_directive}
+use Rattle.canonical_nests.specs.LoopRules.BreachSets as loop_rules
+use Rattle.canonical_nests.specs.LoopRules.Programs.{first_directive, breaches as loop_breaches}
 use Rattle.apply_rewrite.specs.Reversible.{is_reversible_program}
 use Rattle.apply_rewrite.specs.CarriedOut.{carried_out}
+use Rattle.translator.specs.Unbuilt.{first_unbuilt}
 use Rattle.translator.specs.declared.refusal.Refusal.{Refusal}
-use Rattle.translator.specs.declared.refusal.Refusal.TheVariants.{Lex, Parse, Names, NotBuilt, Memory}
+use Rattle.translator.specs.declared.refusal.Refusal.TheVariants.{Lex, Parse, Names, Loops, NotBuilt, Memory}
 
 -- ---- the program of tokens
 
@@ -29,6 +32,11 @@ use Rattle.translator.specs.declared.refusal.Refusal.TheVariants.{Lex, Parse, Na
 pub record SpellsChecked (tokens : List Token) (program : placed.Program) : Type 0 where
   pub tree : IsTree tokens program
   pub names : HasNone (breaches program)
+
+-- the program breaks no loop rule either
+pub record SpellsAdmitted (tokens : List Token) (program : placed.Program) : Type 0 where
+  pub checked : SpellsChecked tokens program
+  pub loops : loop_rules.HasNone (loop_breaches program)
 
 -- Each directive is a `reverse` without clauses, over a canonical loop that declares its variable and that no `break`
 -- leaves; and the program in which these are carried out breaks no name rule and has height at most 256.
@@ -67,9 +75,19 @@ BreaksNames (Names rule place) program = least (breaches program) ≡ Some (reco
 BreaksNames Memory program = Unit {0}
 BreaksNames _ program = ⊥
 
--- a program that breaks no name rule, and isn't built, is refused so, at its first directive
+-- the program breaks a loop rule so
+abbrev pub BreaksLoops : Refusal → placed.Program → Type 0
+BreaksLoops (Loops rule place) program = loop_rules.least (loop_breaches program) ≡ Some (record { place = place; rule = rule })
+BreaksLoops Memory program = Unit {0}
+BreaksLoops _ program = ⊥
+
+-- its first directive or item that isn't carried out yet, else its first directive
+abbrev pub unbuilt_place : placed.Program → Option ℕ
+unbuilt_place program = option_or (first_unbuilt program) (first_directive program)
+
+-- a program that breaks no rule, and isn't built, is refused so
 abbrev pub IsUnbuilt : Refusal → placed.Program → Type 0
-IsUnbuilt (NotBuilt place) program = (first_directive program ≡ Some place) × (IsBuilt program → ⊥)
+IsUnbuilt (NotBuilt place) program = (unbuilt_place program ≡ Some place) × (IsBuilt program → ⊥)
 IsUnbuilt Memory program = Unit {0}
 IsUnbuilt _ program = ⊥
 
@@ -79,7 +97,8 @@ TokensRefused (Lex kind place) tokens = ⊥
 TokensRefused (Parse TooDeep place) tokens = IsTooDeep tokens place
 TokensRefused (Parse kind place) tokens = Blame tokens kind place
 TokensRefused (Names rule place) tokens = (program : placed.Program) × IsTree tokens program × BreaksNames (Names rule place) program
-TokensRefused (NotBuilt place) tokens = (program : placed.Program) × SpellsChecked tokens program × IsUnbuilt (NotBuilt place) program
+TokensRefused (Loops rule place) tokens = (program : placed.Program) × SpellsChecked tokens program × BreaksLoops (Loops rule place) program
+TokensRefused (NotBuilt place) tokens = (program : placed.Program) × SpellsAdmitted tokens program × IsUnbuilt (NotBuilt place) program
 TokensRefused Memory tokens = Unit {0}
 
 -- a text is refused so: by its first lexical fault, or as its tokens are
@@ -92,6 +111,11 @@ IsRefused refusal text = (tokens : List Token) × Cut text tokens × TokensRefus
 abbrev pub IsCause : Refusal → Type 0
 IsCause Memory = ⊥
 IsCause _ = Unit {0}
+
+-- it is told before it is asked whether the program can be carried out
+abbrev pub IsOfRules : Refusal → Type 0
+IsOfRules (NotBuilt place) = ⊥
+IsOfRules _ = Unit {0}
 
 -- ---- what a text is translated to
 
@@ -123,4 +147,8 @@ pub record IsTranslation (text written : List ℕ) : Type 0 where
 
 -- the text is accepted
 abbrev pub IsAccepted : List ℕ → Type 0
-IsAccepted text = (tokens : List Token) × (program : placed.Program) × Cut text tokens × SpellsChecked tokens program × IsBuilt program
+IsAccepted text = (tokens : List Token) × (program : placed.Program) × Cut text tokens × SpellsAdmitted tokens program × IsBuilt program
+
+-- the text is that of a program which breaks no rule
+abbrev pub IsAdmittedText : List ℕ → placed.Program → Type 0
+IsAdmittedText text program = (tokens : List Token) × Cut text tokens × SpellsAdmitted tokens program

@@ -10,6 +10,7 @@ ghost use Rattle.c_soundness.specs.NameBreaches.{BreaksNone};
 ghost use Rattle.apply_rewrite.specs.CarriedOut.{carried_out};
 ghost use Rattle.translator.specs.Answers.{CannotBeReversed, CannotStand, IsReversible, IsUnbuilt, StandsFor};
 
+use crate::first_unbuilt::first_unbuilt;
 use crate::refusal::Refusal;
 use apply_rewrite::reversible::is_reversible_program;
 use apply_rewrite::rewrite::rewrite;
@@ -18,6 +19,7 @@ use c_tree::height::height;
 use c_tree::laws::places_only_are_forgotten;
 use c_tree::tree::Program;
 use c_types::check::{CheckFault, check};
+use canonical_nests::admitted::Admitted;
 use canonical_nests::first_directive::first_directive;
 use std::alloc::Global;
 
@@ -60,15 +62,17 @@ fn reversed(alloc: Global, source: Checked, place: u64) -> Result<Checked, Refus
 ///
 /// # Errors
 ///
-/// `NotBuilt`, at the first directive, exactly where the directives aren't such as are carried out so far. `Memory` where
-/// there is no memory for the answer.
-pub fn carry_out(alloc: Global, source: Checked) -> Result<Checked, Refusal>
+/// `NotBuilt` exactly where the directives aren't such as are carried out so far: at the first directive or item that isn't
+/// carried out yet, else at the first directive. `Memory` where there is no memory for the answer.
+pub fn carry_out(alloc: Global, source: Admitted) -> Result<Checked, Refusal>
     ensures stands { IfOk result (λ checked. StandsFor (placed_program source) (bare_program checked)) }
     ensures refused { IfErr result (λ refusal. IsUnbuilt refusal (placed_program source)) }
 {
+    let source = source.into_checked();
     places_only_are_forgotten(source.program());
-    match first_directive(source.program()) {
-        None => Ok(source),
-        Some(place) => reversed(alloc, source, place),
-    }
+    let Some(first) = first_directive(source.program()) else {
+        return Ok(source);
+    };
+    let place = first_unbuilt(source.program()).unwrap_or(first);
+    reversed(alloc, source, place)
 }

@@ -1,11 +1,14 @@
 //! Laws of answers.
 
 ghost use Rattle.std.specs.Prelude.{◌≡◌, ℕ, List};
-ghost use Rattle.translator.specs.Answers.{IsAccepted, IsCause, IsRefused, IsTranslation};
+ghost use Rattle.c_tree.specs.Placed as placed;
+ghost use Rattle.translator.specs.Answers.{IsAccepted, IsAdmittedText, IsCause, IsOfRules, IsRefused, IsTranslation};
 ghost use Rattle.translator.specs.declared.refusal.Refusal.{Refusal};
 
-/// A text has at most one answer: it is accepted, or it is refused in one way.
+/// A text has at most one answer: it is accepted, or it is refused in one way. No rule refuses one whose program is
+/// admitted.
 pub fn texts_have_one_answer()
+    ensures admitted { (text : List ℕ) (program : placed.Program) → IsAdmittedText text program → (refusal : Refusal) → IsCause refusal → IsOfRules refusal → IsRefused refusal text → ⊥ }
     ensures accepted { (text : List ℕ) → IsAccepted text → (refusal : Refusal) → IsCause refusal → IsRefused refusal text → ⊥ }
     ensures refused { (text : List ℕ) → (this that : Refusal) → IsCause this → IsCause that → IsRefused this text → IsRefused that text → this ≡ that }
 {}

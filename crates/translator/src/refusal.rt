@@ -2,10 +2,11 @@
 
 ghost use Rattle.std.specs.Prelude.{ℕ, List};
 ghost use Rattle.c_lexer.specs.Cut.{IsFault};
-ghost use Rattle.translator.specs.Answers.{IsRefused};
+ghost use Rattle.translator.specs.Answers.{IsOfRules, IsRefused};
 
 use c_lexer::token::{LexFault, LexKind};
 use c_tree::name_rule::NameRule;
+use canonical_nests::rules::LoopRule;
 use pragma_grammar::phrase::ParseKind;
 use std::alloc::AllocError;
 
@@ -21,7 +22,12 @@ pub enum Refusal {
     /// Its program breaks a name rule: the least breach, by place and then by rule.
     Names(NameRule, u64),
 
-    /// Its program has a directive that isn't carried out yet: the first directive's place.
+    /// Its program breaks a loop rule: the least breach of L1 to L25 and L28, by place and then by rule, else L26, else
+    /// L27.
+    Loops(LoopRule, u64),
+
+    /// Its program can't be carried out yet: the place of the first directive or item that isn't carried out yet, else of
+    /// the first directive.
     NotBuilt(u64),
 
     /// There was no memory for the answer.
@@ -41,7 +47,8 @@ impl From<AllocError> for Refusal {
 
 /// The refusal that a lexical fault is.
 pub fn lexical(fault: LexFault) -> Refusal
-    ensures { (text : List ℕ) → IsFault text fault → IsRefused result text }
+    ensures refused { (text : List ℕ) → IsFault text fault → IsRefused result text }
+    ensures of_rules { IsOfRules result }
 {
     match fault {
         LexFault::At(kind, place) => Refusal::Lex(kind, place),

@@ -16,8 +16,8 @@ use std::alloc::Global;
 ///
 /// # Errors
 ///
-/// `Parse`, `Names` and `NotBuilt` exactly where they are the first that applies. `Memory` where there is no memory for
-/// the answer.
+/// `Parse`, `Names`, `Loops` and `NotBuilt` exactly where they are the first that applies. `Memory` where there is no
+/// memory for the answer.
 pub fn translate_tokens(alloc: Global, tokens: &[Token]) -> Result<Vec<u8>, Refusal>
     requires { (text : List ℕ) × Cut text tokens.now }
     ensures written { (text : List ℕ) → Cut text tokens.now → IfOk result (λ written. IsTranslation text written.items) }

@@ -92,15 +92,15 @@ const NESTS: [Row; 14] = [
     ),
     // Parentheses add no height.
     ("print(", ("(", 100_000), "1", (")", 100_000), ");", ""),
-    // The construct has height 4, the block that stands for it 9.
-    ("", ("{", 246), REVERSED, ("}", 246), "", ""),
+    // The construct has tall height 17, and `main` and 238 blocks add 239.
+    ("", ("{", 238), REVERSED, ("}", 238), "", ""),
     (
         "",
-        ("{", 247),
+        ("{", 239),
         REVERSED,
-        ("}", 247),
+        ("}", 239),
         "",
-        "4:13: NotBuilt not built yet\n",
+        "4:13: L26 result too deep\n",
     ),
 ];
 

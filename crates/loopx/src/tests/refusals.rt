@@ -66,12 +66,12 @@ const LINES: [(&str, &str); 15] = [
     ),
     (
         "#pragma omp tile sizes(0)\nfor (int i = 0; i < 4; i += 0) { if (i) break; }\nprint(1);",
-        "3:13: NotBuilt not built yet\n",
+        "3:24: L10 size is not a positive constant\n",
     ),
     // Reverse constructs that aren't carried out.
     (
         "#pragma omp reverse\nfor (int i = 0; i < 4; i++) { if (i) break; }",
-        "3:13: NotBuilt not built yet\n",
+        "4:38: L9 break leaves an affected loop\n",
     ),
     (
         "int i;\n#pragma omp reverse\nfor (i = 0; i < 4; i++) ;",
@@ -79,19 +79,19 @@ const LINES: [(&str, &str); 15] = [
     ),
     (
         "#pragma omp reverse\nfor (int i = 0; i < 4; i += 0) ;",
-        "3:13: NotBuilt not built yet\n",
+        "4:24: L4 increment is not canonical\n",
     ),
     (
         "#pragma omp reverse\nfor (int i = 0; i < 4; i *= 2) ;",
-        "3:13: NotBuilt not built yet\n",
+        "4:24: L4 increment is not canonical\n",
     ),
     (
         "#pragma omp reverse\n{ for (int i = 0; i < 4; i++) ; for (int i = 0; i < 4; i++) ; }",
-        "3:13: NotBuilt not built yet\n",
+        "3:13: L21 more than one loop\n",
     ),
     (
         "#pragma omp reverse\nfor (int i = 0; i < 4; i++) {\n#pragma omp unroll\nfor (int j = 0; j < 4; j++) ;\n}",
-        "3:13: NotBuilt not built yet\n",
+        "5:13: NotBuilt not built yet\n",
     ),
     ("print(x);", "3:7: N1 undeclared name\n"),
     ("int x; int x;", "3:12: N2 name declared twice\n"),

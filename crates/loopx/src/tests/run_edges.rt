@@ -77,7 +77,7 @@ const OPERATORS: [Row; 30] = [
 ];
 
 /// Conversions, compound assignments and steps.
-const CONVERSIONS: [Row; 24] = [
+const CONVERSIONS: [Row; 27] = [
     (
         "print((int)2147483647LL); print((int)-2147483648);",
         "2147483647\n-2147483648\n",
@@ -114,6 +114,9 @@ const CONVERSIONS: [Row; 24] = [
         "",
     ),
     ("int x = I; x /= -1;", "", "trap Overflow\n"),
+    ("int x = I; x %= -1;", "", "trap Overflow\n"),
+    ("long long x = L; x /= -1;", "", "trap Overflow\n"),
+    ("long long x = L; x %= -1;", "", "trap Overflow\n"),
     ("int x = I; x %= -1LL; print(x);", "0\n", ""),
     ("int x = 7; x %= z;", "", "trap DivideByZero\n"),
     ("int x = 2147483647; x++;", "", "trap Overflow\n"),
@@ -133,7 +136,7 @@ const CONVERSIONS: [Row; 24] = [
 ];
 
 /// Subscripts, variables without a value, and what is evaluated first.
-const PLACES: [Row; 27] = [
+const PLACES: [Row; 29] = [
     ("a[1][2] = 5; print(a[1][2]); print(a[0][0]);", "5\n0\n", ""),
     ("print(a[2][0]);", "", "trap Index\n"),
     ("print(a[1][3]);", "", "trap Index\n"),
@@ -181,10 +184,20 @@ const PLACES: [Row; 27] = [
         "3\n1\n6\n1\n",
         "",
     ),
+    (
+        "int x = 1; { int x = 2; { int x = 3; print(x); } print(x); x = 4; print(x); } print(x);",
+        "3\n2\n4\n1\n",
+        "",
+    ),
+    (
+        "int i = 9; for (int i = 0; i < 2; i++) print(i); print(i);",
+        "0\n1\n9\n",
+        "",
+    ),
 ];
 
 /// Jumps.
-const JUMPS: [Row; 8] = [
+const JUMPS: [Row; 9] = [
     (
         "for (int i = 0; i < 5; i++) { if (i % 2) continue; if (i > 3) break; print(i); }",
         "0\n2\n",
@@ -211,6 +224,11 @@ const JUMPS: [Row; 8] = [
         "",
     ),
     ("int i = 7; for (i = 2; i > 0; i--) ; print(i);", "0\n", ""),
+    (
+        "for (int i = 2147483647; i > 0; i++) print(i);",
+        "2147483647\n",
+        "trap Overflow\n",
+    ),
     (
         "for (int i = 0; i < 2; i++) { int i = 5; print(i); }",
         "5\n5\n",
@@ -275,7 +293,7 @@ fn jumps_leave_or_go_on_with_the_innermost_loop(rt: HostRuntime) -> Result<(), F
 /// A bound, lines of `main`, what they print, and what is told of the run.
 type BoundRow = (&'static str, &'static str, &'static str, &'static str);
 
-const BOUNDS: [BoundRow; 22] = [
+const BOUNDS: [BoundRow; 23] = [
     ("0", "print(1);", "1\n", ""),
     (
         "0",
@@ -328,6 +346,12 @@ const BOUNDS: [BoundRow; 22] = [
         "",
     ),
     ("18446744073709551615", "do print(1); while (0);", "1\n", ""),
+    (
+        "18446744073709551615",
+        "int i = 0; while (i < 3) i++; print(i);",
+        "3\n",
+        "",
+    ),
 ];
 
 #[test]

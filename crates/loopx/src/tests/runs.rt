@@ -54,7 +54,7 @@ const LINES: [Row; 9] = [
 ];
 
 /// Whole texts, run with a bound of 100 and the input 21.
-const TEXTS: [Row; 4] = [
+const TEXTS: [Row; 9] = [
     (
         "void print(long long);\nint a[2];\nint main(void) { print(a[2]); }",
         "",
@@ -78,6 +78,36 @@ const TEXTS: [Row; 4] = [
         "",
         "trap Narrow\n",
         Status::Trapped,
+    ),
+    (
+        "void print(long long);\nstatic void f(int k) { int x; if (k) x = k; print(x); }\nint main(void) { f(7); f(0); }",
+        "7\n",
+        "trap Unset\n",
+        Status::Trapped,
+    ),
+    (
+        "void print(long long);\nint x = 1;\nstatic void g(int y) { x += y; print(x); }\nstatic void f(int x) { g(x); x++; g(x); print(x); }\nint main(void) { int y = 5; f(y); print(y); print(x); }",
+        "6\n12\n6\n5\n12\n",
+        "",
+        Status::Done,
+    ),
+    (
+        "void print(long long);\nstatic void leaf(long long n) { long long m = n; m *= 2; print(m); }\nstatic void up(int n) { int m = n + 1; leaf(m); print(m); leaf(n); }\nint main(void) { int m = 3; for (int i = 0; i < 2; i++) { up(i); leaf(m); } print(m); }",
+        "2\n1\n0\n6\n4\n2\n2\n6\n3\n",
+        "",
+        Status::Done,
+    ),
+    (
+        "#define A 3\nvoid print(long long);\nint a[A];\n#define B (-4)\nint b[2];\nstatic void f(void) { a[2] = B; }\n#define C 5\nint main(void) { f(); print(a[2]); print(A + B + C); }",
+        "-4\n4\n",
+        "",
+        Status::Done,
+    ),
+    (
+        "void print(long long);\nint x = 1;\nint main(void) { { int x = 2; x++; print(x); } x += 4; print(x); }",
+        "3\n5\n",
+        "",
+        Status::Done,
     ),
 ];
 

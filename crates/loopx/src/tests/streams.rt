@@ -1,6 +1,8 @@
 //! Words, and streams that fail.
 
-use super::translations::{KERNEL, KERNEL_PRINTED, PLAIN, PLAIN_PRINTED, REVERSED_LOOP};
+use super::translations::{
+    KERNEL, KERNEL_PRINTED, PLAIN, PLAIN_PRINTED, REVERSED_LOOP, REVERSED_LOOP_IN_PLAIN_C,
+};
 use super::{
     Failing, NOTHING_FAILS, answer_at_once, answer_in_pieces, answer_to, in_main, word_list,
 };
@@ -195,13 +197,48 @@ fn reads_texts_of_at_most_two_to_the_24_bytes(rt: HostRuntime) -> Result<(), Fai
     Ok(())
 }
 
+/// Words and a text, and the exit status, what is written and what is told.
+type Row = (
+    &'static [&'static str],
+    &'static [u8],
+    u8,
+    &'static [u8],
+    &'static [u8],
+);
+
+/// A loop whose body assigns its variable.
+const CHANGED_VARIABLE: &[u8] =
+    b"int main(void) {\n#pragma omp reverse\nfor (int i = 0; i < 5; i++) i++;\n}\n";
+
 #[test]
 fn answers_alike_however_the_source_is_cut(rt: HostRuntime) -> Result<(), Fail> {
-    for most in [1, 2, 3, 64] {
-        assert!(rt; most >= 1);
-        let got = answer_in_pieces(rt.alloc(), &["translate"], KERNEL, most, &NOTHING_FAILS)?;
-        assert_eq!(rt; got.status, Status::Done, "by {most}");
-        assert_eq!(rt; got.out.as_slice(), KERNEL_PRINTED, "by {most}");
+    let rows: [Row; 5] = [
+        (&["translate"], KERNEL, 0, KERNEL_PRINTED, b""),
+        (
+            &["translate"],
+            REVERSED_LOOP,
+            0,
+            REVERSED_LOOP_IN_PLAIN_C,
+            b"",
+        ),
+        (
+            &["translate"],
+            CHANGED_VARIABLE,
+            1,
+            b"",
+            b"3:29: L5 loop variable changed\n",
+        ),
+        (&["run", "5"], REVERSED_LOOP, 0, b"4\n3\n2\n1\n0\n", b""),
+        (&["run", "4"], REVERSED_LOOP, 8, b"4\n3\n2\n1\n", b"cut\n"),
+    ];
+    for (words, text, code, written, told) in rows {
+        for most in [1, 2, 3, 64] {
+            assert!(rt; most >= 1);
+            let got = answer_in_pieces(rt.alloc(), words, text, most, &NOTHING_FAILS)?;
+            assert_eq!(rt; exit_code(got.status), code, "by {most}");
+            assert_eq!(rt; got.out.as_slice(), written, "by {most}");
+            assert_eq!(rt; got.diag.as_slice(), told, "by {most}");
+        }
     }
     Ok(())
 }

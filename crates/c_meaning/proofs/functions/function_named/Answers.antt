@@ -1,17 +1,31 @@
--- The last item that is left is the function, or the others have it.
-use Rattle.std.proofs.Common.{◌≡◌, ◌∙◌, sym, ap, refl, subst, ◌-◌, Some, List, Option, true, false, rules, arith}
-use Rattle.std.specs.Prelude.{bytes_eq}
+-- Behind the place where the search begins no function has the name. The last item that is left is the function, or the
+-- others have it.
+use Rattle.std.proofs.Common.{◌≡◌, ◌∙◌, sym, ap, refl, subst, ℕ, min, length, map, take, ◌-◌, Some, List, Option, true, false, rules, arith}
+use Rattle.std.specs.Prelude.{bytes_eq, unwrap_or}
 use Rattle.resolved_names.specs.Numbered.{numbered_stmts}
 use Rattle.resolved_names.specs.declared.tree.Param.{Param}
 use Rattle.resolved_names.specs.declared.tree.Stmt.{Stmt}
-use Rattle.c_semantics.specs.Meaning.SimpleStatements.{Function}
+use Rattle.c_semantics.specs.Meaning.SimpleStatements.{Function, function_named}
 use Rattle.c_meaning.specs.Runnable.{RunnableStmts}
 use Rattle.c_meaning.specs.Sizes.{stmts_size}
-use Rattle.resolved_names.specs.Numbered.{number_name}
+use Rattle.resolved_names.specs.Numbered.{number_name, numbered_top}
+use Rattle.c_semantics.specs.Meaning.Programs.{env_after, no_env}
+use Rattle.c_meaning.specs.PlaceTables.{place_at}
+use Rattle.c_meaning.proofs.LastItems.{functions_before}
 use Rattle.c_meaning.proofs.Numbers.{number_eq}
 use Rattle.c_meaning.proofs.Lists.{good_before}
 use Rattle.c_meaning.proofs.Calls.{function_at, function_found, function_passed, function_other, function_body, function_smaller}
 use Rattle.c_meaning.proofs.functions.function_named.Goals as goal
+
+pub each-init : goal.each-init
+each-init c =
+    let s = c.args.scope.now in
+    let xs = s.items.now in
+    let is : c.min-left.result ≡ min (unwrap_or (place_at s.last.now.functions c.args.name) 0) (length xs) = c.min-left.ensures ∙ ap (λ (k : ℕ). min k (length xs)) c.up_to_function.ensures in
+    record {
+      within = omega arith;
+      among = ap (λ (k : ℕ). function_named (number_name c.args.name) (env_after s.bound no_env (map numbered_top (take k xs))).functions) is ∙ functions_before s.last.now xs s.stand_before s.bound c.args.name;
+    }
 
 pub returns-then-name-defined-clause-found : goal.returns-then-name-defined-clause-found
 returns-then-name-defined-clause-found c =

@@ -12,12 +12,12 @@ pub each-init : goal.each-init
 each-init g c = leads_same _ _ _
 
 pub run_block-requires-clause-known : goal.run_block-requires-clause-known
-run_block-requires-clause-known g c = good_before c.args.items.now c.each.index c.requires
+run_block-requires-clause-known g c = good_before c.args.items.now c.each.index c.requires.runnable
 
 pub run_block-requires-clause-runnable : goal.run_block-requires-clause-runnable
 run_block-requires-clause-runnable g c =
     let y = c.index-items-index.result in
-    subst (λ (z : Item). RunnableTop (numbered_top z)) c.in-Main.is (good_at c.args.items.now c.each.index y c.each-test.true c.index-items-index.is c.requires)
+    subst (λ (z : Item). RunnableTop (numbered_top z)) c.in-Main.is (good_at c.args.items.now c.each.index y c.each-test.true c.index-items-index.is c.requires.runnable)
 
 pub returns-in-Main : goal.returns-in-Main
 returns-in-Main g c =
@@ -26,8 +26,8 @@ returns-in-Main g c =
 
 pub begin-requires : goal.begin-requires
 begin-requires g c = record {
-  known = good_before c.args.items.now c.each.index c.requires;
-  runnable = good_at c.args.items.now c.each.index c.index-items-index.result c.each-test.true c.index-items-index.is c.requires;
+  known = good_before c.args.items.now c.each.index c.requires.runnable;
+  runnable = good_at c.args.items.now c.each.index c.index-items-index.result c.each-test.true c.index-items-index.is c.requires.runnable;
 }
 
 pub returns-in-Err : goal.returns-in-Err

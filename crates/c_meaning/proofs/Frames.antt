@@ -1,0 +1,129 @@
+-- The places of a frame's variables: where a name is found, and what a table says after each change.
+use Rattle.std.proofs.Common.{◌≡◌, ◌∙◌, sym, ap, refl, subst, ℕ, zero, suc, ◌+◌, ◌-◌, ◌<◌, ◌≤◌, Bool, true, false, List, [], ◌∷◌, ◌++◌, length, drop, reverse, set, arith, nat_eq}
+use Rattle.std.proofs.lemmas.List.{reverse-append, length-reverse, length-set, length-drop, drop-drop, drop_all}
+use Rattle.std.specs.Prelude.{bytes_eq, if◌then◌else◌, slice_index_or, Option, Some, None, ℤ}
+use Rattle.c_tree.specs.Bare.{Name}
+use Rattle.resolved_names.specs.Numbered.{number_name}
+use Rattle.c_semantics.specs.Meaning.State.{Cell, Var, find, write, keep}
+use Rattle.c_semantics.specs.Meaning.SimpleStatements.{changed}
+use Rattle.c_meaning.specs.declared.place_table.PlaceTable.{PlaceTable}
+use Rattle.c_meaning.specs.PlaceTables.{place_at}
+use Rattle.c_meaning.specs.Frames.{place_of, Hide, IsFrame}
+use Rattle.c_meaning.proofs.PlaceTables.{entry_within}
+use Rattle.c_meaning.specs.Variables.{first_at}
+use Rattle.c_meaning.proofs.Numbers.{number_eq}
+use Rattle.c_meaning.proofs.Variables.{found, written, missing, unwritten, at_last, set_last}
+
+-- ---- the place of a name
+
+place_here : (x : Name) (vs : List Var) (i : ℕ) (b : Bool) → (place_of x vs ≡ Some i → i + first_at x vs + 1 ≡ length vs) → (if b then Some (length vs) else place_of x vs) ≡ Some i → i + (if b then 0 else suc (first_at x vs)) + 1 ≡ suc (length vs)
+place_here x vs i true rest is = let same : length vs ≡ i = cc in omega arith
+place_here x vs i false rest is = let more : i + first_at x vs + 1 ≡ length vs = rest is in omega arith
+
+place_is : (x : Name) (vs : List Var) (i : ℕ) → place_of x vs ≡ Some i → i + first_at x vs + 1 ≡ length vs
+place_is x [] i is = absurd (cc)
+place_is x (v ∷ vs) i is = place_here x vs i (bytes_eq x v.name) (place_is x vs i) is
+
+no_place_here : (x : Name) (vs : List Var) (b : Bool) → (place_of x vs ≡ None → first_at x vs ≡ length vs) → (if b then Some (length vs) else place_of x vs) ≡ None → (if b then 0 else suc (first_at x vs)) ≡ suc (length vs)
+no_place_here x vs true rest is = absurd (cc)
+no_place_here x vs false rest is = ap suc (rest is)
+
+no_place : (x : Name) (vs : List Var) → place_of x vs ≡ None → first_at x vs ≡ length vs
+no_place x [] is = refl
+no_place x (v ∷ vs) is = no_place_here x vs (bytes_eq x v.name) (no_place x vs) is
+
+-- the variable there, of variables whose innermost is the last
+module _ (x : Name) (vs : List Var) (i : ℕ) (is : place_of x (reverse vs) ≡ Some i) where
+  place_last : i + first_at x (reverse vs) + 1 ≡ length vs
+  place_last = place_is x (reverse vs) i is ∙ length-reverse vs
+
+  pub place_within : i < length vs
+  place_within = let here : i + first_at x (reverse vs) + 1 ≡ length vs = place_last in omega arith
+
+  below : first_at x (reverse vs) < length (reverse vs)
+  below = let here : i + first_at x (reverse vs) + 1 ≡ length (reverse vs) = place_is x (reverse vs) i is in omega arith
+
+  module _ (v : Var) (at : v ≡ slice_index_or vs i v) where
+    at_first : v ≡ slice_index_or (reverse vs) (first_at x (reverse vs)) v
+    at_first = at_last vs i (first_at x (reverse vs)) v place_last at
+
+    pub place_found : find x (reverse vs) ≡ Some v.cell
+    place_found = found x (reverse vs) v below at_first
+
+    pub place_written : (k : ℕ) (z : ℤ) → reverse (set vs i (record { name = v.name; cell = changed (Some v.cell) k z })) ≡ write x (changed (find x (reverse vs)) k z) (reverse vs)
+    place_written k z =
+        let c : Cell = changed (Some v.cell) k z in
+        set_last vs i (first_at x (reverse vs)) (record { name = v.name; cell = c }) place_last
+        ∙ (sym (written x c (reverse vs) v below at_first)
+        ∙ ap (λ o. write x (changed o k z) (reverse vs)) (sym place_found))
+
+    pub frame_set : (w : Var) → w.name ≡ v.name → (places : List (Option ℕ)) (t : PlaceTable) → IsFrame (reverse vs) places t → IsFrame (reverse (set vs i w)) places t
+    frame_set w same places t h =
+        subst (λ us. IsFrame us places t) (sym (set_last vs i (first_at x (reverse vs)) w place_last)) (frame_with (reverse vs) (first_at x (reverse vs)) v w at_first same places t h)
+      where
+        place_set : (y : Name) (us : List Var) (k : ℕ) (u w : Var) → u ≡ slice_index_or us k u → w.name ≡ u.name → place_of y (set us k w) ≡ place_of y us
+        place_set y [] k u w at same = refl
+        place_set y (v ∷ us) zero u w at same = ap (λ (n : Name). if bytes_eq y n then Some (length us) else place_of y us) (same ∙ ap (λ z. z.name) at)
+        place_set y (v ∷ us) (suc k) u w at same =
+            ap (λ (n : ℕ). if bytes_eq y v.name then Some n else place_of y (set us k w)) (length-set us k w)
+            ∙ ap (λ (o : Option ℕ). if bytes_eq y v.name then Some (length us) else o) (place_set y us k u w at same)
+
+        hide_set : (us : List Var) (k : ℕ) (u w : Var) → u ≡ slice_index_or us k u → w.name ≡ u.name → (places : List (Option ℕ)) → Hide us places → Hide (set us k w) places
+        hide_set [] k u w at same places h = h
+        hide_set (v ∷ us) k u w at same [] h = absurd h
+        hide_set (v ∷ us) zero u w at same (p ∷ places) h = (h.0 ∙ ap (λ (n : Name). place_of n us) (sym (same ∙ ap (λ z. z.name) at)), h.1)
+        hide_set (v ∷ us) (suc k) u w at same (p ∷ places) h = (h.0 ∙ sym (place_set v.name us k u w at same), hide_set us k u w at same places h.1)
+
+        frame_with : (us : List Var) (k : ℕ) (u w : Var) → u ≡ slice_index_or us k u → w.name ≡ u.name → (places : List (Option ℕ)) (t : PlaceTable) → IsFrame us places t → IsFrame (set us k w) places t
+        frame_with us k u w at same places t h = record {
+          hidden = hide_set us k u w at same places h.hidden;
+          innermost = λ n. h.innermost n ∙ sym (place_set (number_name n) us k u w at same);
+        }
+
+-- no variable has the name
+module _ (x : Name) (vs : List Var) (is : place_of x vs ≡ None) where
+  pub nothing_found : find x vs ≡ None
+  nothing_found = missing x vs (no_place x vs is)
+
+  pub nothing_written : (k : ℕ) (z : ℤ) → vs ≡ write x (changed (find x vs) k z) vs
+  nothing_written k z = sym (unwritten x (changed (find x vs) k z) vs (no_place x vs is))
+
+-- ---- one variable less
+
+-- the last of the variables stands first, the other way round
+pub last_first : {A : Type 0} (vs us : List A) (v : A) → vs ≡ us ++ v ∷ [] → reverse vs ≡ v ∷ reverse us
+last_first vs us v is = ap reverse is ∙ reverse-append us (v ∷ [])
+
+pub frame_last : (vs us : List Var) (v : Var) (places qs : List (Option ℕ)) (p : Option ℕ) (t : PlaceTable) → vs ≡ us ++ v ∷ [] → places ≡ qs ++ p ∷ [] → IsFrame (reverse vs) (reverse places) t → IsFrame (v ∷ reverse us) (p ∷ reverse qs) t
+frame_last vs us v places qs p t is also h =
+    subst (λ ws. IsFrame ws (p ∷ reverse qs) t) (last_first vs us v is) (subst (λ ws. IsFrame (reverse vs) ws t) (last_first places qs p also) h)
+
+-- the table reaches as far as the number of the innermost variable
+module _ (vs : List Var) (places : List (Option ℕ)) (t : PlaceTable) (v : Var) (k : ℕ) (named : number_name k ≡ v.name) where
+  itself : bytes_eq (number_name k) v.name ≡ nat_eq k k
+  itself = ap (bytes_eq (number_name k)) (sym named) ∙ number_eq k k
+
+  placed : (b : Bool) (o : Option ℕ) → nat_eq k k ≡ b → o ≡ (if b then Some (length vs) else place_of (number_name k) vs) → (i : ℕ) × (o ≡ Some i)
+  placed true o same is = (length vs, is)
+  placed false o same is = absurd (grind arith)
+
+  pub frame_room : (p : Option ℕ) → IsFrame (v ∷ vs) (p ∷ places) t → k < length t.places.items
+  frame_room p h =
+      let here : place_at t k ≡ (if nat_eq k k then Some (length vs) else place_of (number_name k) vs) = h.innermost k ∙ ap (λ (b : Bool). if b then Some (length vs) else place_of (number_name k) vs) itself in
+      let q = placed (nat_eq k k) (place_at t k) refl here in
+      entry_within t.places.items k q.0 q.1
+
+-- ---- the variables that are kept
+
+pub keep_less : (k : ℕ) (vs : List Var) → k < length vs → keep k (drop 1 vs) ≡ keep k vs
+keep_less k vs h =
+    let over : 1 + (length (drop 1 vs) - k) ≡ length vs - k = omega (arith, length-drop 1 vs) in
+    drop-drop (length (drop 1 vs) - k) 1 vs ∙ ap (λ n. drop n vs) over
+
+pub keep_all : (k : ℕ) (vs : List Var) → length vs ≤ k → keep k vs ≡ vs
+keep_all k vs h = let none : length vs - k ≡ 0 = omega arith in ap (λ n. drop n vs) none
+
+pub keep_none : (vs : List Var) → keep 0 vs ≡ []
+keep_none vs = drop_all (length vs - 0) vs (omega arith)
+
+pub ruleset kept = (keep_less, keep_all, keep_none)
