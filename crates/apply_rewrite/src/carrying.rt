@@ -4,7 +4,7 @@
 ghost use Rattle.std.specs.Prelude.{◌≡◌, ◌≢◌, ◌∷◌, [], IfOk, MatchOption, OnOk, length};
 ghost use Rattle.std.specs.Option.{option_map};
 ghost use Rattle.c_tree.specs.Bare as b;
-ghost use Rattle.c_tree.specs.BareOf.{bare_program, bare_stmt, bare_stmts};
+ghost use Rattle.c_tree.specs.BareOf.{bare_directive, bare_program, bare_stmt, bare_stmts};
 ghost use Rattle.c_tree.specs.Constants.{DefinesAreHeld};
 ghost use Rattle.c_tree.specs.WellFormed.{WellFormedStmt, WellFormedStmts};
 ghost use Rattle.canonical_nests.specs.Canonical.{program_defines};
@@ -16,7 +16,7 @@ ghost use Rattle.carried_out.specs.CarriedOut as c;
 use crate::heads::typed_head;
 use crate::plans::{plan, planned};
 use crate::scope::Scope;
-use c_tree::tree::{Program, Stmt, StmtList};
+use c_tree::tree::{Directive, Program, Stmt, StmtList};
 use loop_normal::fresh::Fresh;
 use loop_normal::generated::Gen;
 use loop_normal::normal::{OwnedLoop, normal_leaf};
@@ -130,9 +130,7 @@ fn carried(
             body,
             span: _span,
         } => {
-            let plan = plan(alloc, defines, &directive)?;
-            let code = nest(alloc, defines, scope, body, fresh)?;
-            let code = planned(alloc, &plan, code, fresh)?;
+            let code = construct(alloc, defines, scope, &directive, body, fresh)?;
             Ok(block(statements(alloc, code)?))
         }
         other => Ok(other),
@@ -164,6 +162,27 @@ pub(crate) fn carried_all(
     }
     scope.keep(len);
     Ok(done)
+}
+
+/// The code of a directive's loop under its plan.
+#[cycle(carrying)]
+fn construct(
+    alloc: Global,
+    defines: &Program,
+    scope: &mut Scope,
+    directive: &Directive,
+    body: StmtList,
+    fresh: &mut Fresh,
+) -> Result<Gen, AllocError>
+    requires defines_held { DefinesAreHeld (bare_program defines.now) }
+    requires well_formed { WellFormedStmt (b.omp (bare_directive directive.now) (bare_stmts body)) }
+    ensures tree { IfOk result (λ code. bare_gen code ≡ (c.nest_in (program_defines (bare_program defines.now)) scope.old (b.omp (bare_directive directive.now) (bare_stmts body)) fresh.old).tree) }
+    ensures left { OnOk result (fresh.new ≡ (c.nest_in (program_defines (bare_program defines.now)) scope.old (b.omp (bare_directive directive.now) (bare_stmts body)) fresh.old).left) }
+    ensures scope { OnOk result (scope.new ≡ scope.old) }
+{
+    let plan = plan(alloc, defines, directive)?;
+    let code = nest(alloc, defines, scope, body, fresh)?;
+    planned(alloc, &plan, code, fresh)
 }
 
 /// The code of the loop that a list leads to, through braces and further directives, and none where it leads to none.
@@ -221,11 +240,7 @@ fn nest_in(
             directive,
             body,
             span: _span,
-        } => {
-            let plan = plan(alloc, defines, &directive)?;
-            let code = nest(alloc, defines, scope, body, fresh)?;
-            planned(alloc, &plan, code, fresh)
-        }
+        } => construct(alloc, defines, scope, &directive, body, fresh),
         other => {
             drop(other);
             Ok(no_code(alloc))
