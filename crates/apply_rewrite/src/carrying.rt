@@ -130,7 +130,7 @@ fn carried(
             body,
             span: _span,
         } => {
-            let code = construct(alloc, defines, scope, &directive, body, fresh)?;
+            let code = construct(alloc, defines, scope, body, &directive, fresh)?;
             Ok(block(statements(alloc, code)?))
         }
         other => Ok(other),
@@ -170,8 +170,8 @@ fn construct(
     alloc: Global,
     defines: &Program,
     scope: &mut Scope,
-    directive: &Directive,
     body: StmtList,
+    directive: &Directive,
     fresh: &mut Fresh,
 ) -> Result<Gen, AllocError>
     requires defines_held { DefinesAreHeld (bare_program defines.now) }
@@ -240,7 +240,7 @@ fn nest_in(
             directive,
             body,
             span: _span,
-        } => construct(alloc, defines, scope, &directive, body, fresh),
+        } => construct(alloc, defines, scope, body, &directive, fresh),
         other => {
             drop(other);
             Ok(no_code(alloc))
