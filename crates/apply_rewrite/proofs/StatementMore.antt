@@ -1,5 +1,6 @@
 -- Carrying out one statement more, and what a walk over statements by value knows of them.
 use Rattle.std.proofs.Common.{◌≡◌, ◌≢◌, refl, sym, ap, ◌∙◌, subst, ℕ, ◌≤◌, max, Option, Some, None, List, [], ◌∷◌, ◌++◌, length, append_assoc, slice_index_or, arith}
+use Rattle.std.specs.Option.{IfSome, option_map, unwrap_or}
 use denote.Param.Weighed.{most, most-append}
 use Rattle.c_tree.specs.Bare as b
 use Rattle.c_tree.specs.Bare.{more_stmts}
@@ -24,6 +25,9 @@ use Rattle.carried_out.specs.CarriedOut.{carried, carried_all, nest, nest_in, no
 
 done_more : (done : List Stmt) (y : Stmt) → bare_stmts (done ++ y ∷ []) ≡ join (bare_stmts done) (only (bare_stmt y))
 done_more done y = stmts_join done (y ∷ [])
+
+bare_one : (e : Expr) (ts : List Stmt) (at : Span) → bare_stmt (v.If e ts None at) ≡ b.if_ (bare_expr e) (bare_stmts ts)
+bare_one e ts at = ap bare_stmt (sym (v.rolls-If e ts None at)) ∙ fold-roll-Stmt b.Stmt b.Head stmt_layer head_layer (layer.If e ts None at)
 
 bare_two : (e : Expr) (ts es : List Stmt) (at : Span) → bare_stmt (v.If e ts (Some es) at) ≡ b.if_else (bare_expr e) (bare_stmts ts) (bare_stmts es)
 bare_two e ts es at = ap bare_stmt (sym (v.rolls-If e ts (Some es) at)) ∙ fold-roll-Stmt b.Stmt b.Head stmt_layer head_layer (layer.If e ts (Some es) at)
@@ -65,20 +69,31 @@ module _ (ds : List Define) where
     scope_step w y one e =
         e ∙ ap (λ a. scope_after a u) one ∙ carried_after u (bare_stmt x) g u ∙ ap (scope_after (bare_stmt x)) seen ∙ sym (after_more xs x s)
 
-  -- both branches of an `if`
-  pub both : (s u : State) (stmt : Stmt) (e : Expr) (ts es : List Stmt) (branch : Option (List Stmt)) (at : Span) (f g : FreshNames) (ts' es' : List Stmt) → u ≡ s →
-      stmt ≡ v.If e ts branch at → branch ≡ Some es → bare_stmts ts' ≡ (carried_all ds s (bare_stmts ts) f).tree → g ≡ (carried_all ds s (bare_stmts ts) f).left → bare_stmts es' ≡ (carried_all ds u (bare_stmts es) g).tree →
+  -- an `if` with both branches, and one with the first alone
+  both : (s u : State) (stmt : Stmt) (e : Expr) (ts es : List Stmt) (at : Span) (f g : FreshNames) (ts' es' : List Stmt) → u ≡ s →
+      stmt ≡ v.If e ts (Some es) at → bare_stmts ts' ≡ (carried_all ds s (bare_stmts ts) f).tree → g ≡ (carried_all ds s (bare_stmts ts) f).left → bare_stmts es' ≡ (carried_all ds u (bare_stmts es) g).tree →
       bare_stmt (v.If e ts' (Some es') at) ≡ (carried ds s (bare_stmt stmt) f).tree
-  both s u stmt e ts es branch at f g ts' es' seen is some first left second =
+  both s u stmt e ts es at f g ts' es' seen is first left second =
       bare_two e ts' es' at ∙ ap (λ a. b.if_else (bare_expr e) a (bare_stmts es')) first
       ∙ ap (λ a. b.if_else (bare_expr e) (carried_all ds s (bare_stmts ts) f).tree a) (second ∙ (λ i. (carried_all ds (seen i) (bare_stmts es) (left i)).tree))
-      ∙ ap (λ a. (carried ds s a f).tree) (sym (ap bare_stmt (is ∙ ap (λ o. v.If e ts o at) some) ∙ bare_two e ts es at))
+      ∙ ap (λ a. (carried ds s a f).tree) (sym (ap bare_stmt is ∙ bare_two e ts es at))
 
-  pub both_left : (s u : State) (stmt : Stmt) (e : Expr) (ts es : List Stmt) (branch : Option (List Stmt)) (at : Span) (f g h : FreshNames) → u ≡ s →
-      stmt ≡ v.If e ts branch at → branch ≡ Some es → g ≡ (carried_all ds s (bare_stmts ts) f).left → h ≡ (carried_all ds u (bare_stmts es) g).left → h ≡ (carried ds s (bare_stmt stmt) f).left
-  both_left s u stmt e ts es branch at f g h seen is some left second =
-      second ∙ (λ i. (carried_all ds (seen i) (bare_stmts es) (left i)).left)
-      ∙ ap (λ a. (carried ds s a f).left) (sym (ap bare_stmt (is ∙ ap (λ o. v.If e ts o at) some) ∙ bare_two e ts es at))
+  -- what is made of an `if`, and the names that are left
+  pub if_tree : (s u : State) (stmt : Stmt) (e : Expr) (ts : List Stmt) (no : Option (List Stmt)) (at : Span) (f g : FreshNames) (ts' : List Stmt) (no' : Option (List Stmt)) → u ≡ s →
+      stmt ≡ v.If e ts no at → bare_stmts ts' ≡ (carried_all ds s (bare_stmts ts) f).tree → g ≡ (carried_all ds s (bare_stmts ts) f).left →
+      option_map bare_stmts no' ≡ option_map (λ es. (carried_all ds u (bare_stmts es) g).tree) no → bare_stmt (v.If e ts' no' at) ≡ (carried ds s (bare_stmt stmt) f).tree
+  if_tree s u stmt e ts None at f g ts' None seen is first left second =
+      bare_one e ts' at ∙ ap (b.if_ (bare_expr e)) first ∙ ap (λ a. (carried ds s a f).tree) (sym (ap bare_stmt is ∙ bare_one e ts at))
+  if_tree s u stmt e ts None at f g ts' (Some es') seen is first left second = absurd (cc)
+  if_tree s u stmt e ts (Some es) at f g ts' None seen is first left second = absurd (cc)
+  if_tree s u stmt e ts (Some es) at f g ts' (Some es') seen is first left second =
+      both s u stmt e ts es at f g ts' es' seen is first left (ap (λ o. unwrap_or o b.no_stmts) second)
+
+  pub if_left : (s u : State) (stmt : Stmt) (e : Expr) (ts : List Stmt) (no : Option (List Stmt)) (at : Span) (f g h : FreshNames) → u ≡ s →
+      stmt ≡ v.If e ts no at → g ≡ (carried_all ds s (bare_stmts ts) f).left → h ≡ unwrap_or (option_map (λ es. (carried_all ds u (bare_stmts es) g).left) no) g → h ≡ (carried ds s (bare_stmt stmt) f).left
+  if_left s u stmt e ts None at f g h seen is left second = second ∙ left ∙ ap (λ a. (carried ds s a f).left) (sym (ap bare_stmt is ∙ bare_one e ts at))
+  if_left s u stmt e ts (Some es) at f g h seen is left second =
+      second ∙ (λ i. (carried_all ds (seen i) (bare_stmts es) (left i)).left) ∙ ap (λ a. (carried ds s a f).left) (sym (ap bare_stmt is ∙ bare_two e ts es at))
 
   -- a list that is not one statement leads to no loop, and one statement leads where it leads itself
   pub nest_other : (s : State) (xs : List Stmt) (f : FreshNames) → length xs ≢ 1 → nest ds s (bare_stmts xs) f ≡ no_code f
@@ -118,6 +133,15 @@ module _ (ds : List Define) where
       ap (λ z. nest_in ds s (bare_stmt z) f) rolled
       ∙ other_layer s (out-Stmt stmt) f (λ h ts at e. no_loop h ts at (rolled ∙ e)) (λ ts at e. no_block ts at (rolled ∙ e)) (λ d ts at e. no_omp d ts at (rolled ∙ e))
 
+-- the branches of a well-formed `if`
+pub yes_well_formed : (stmt : Stmt) (e : Expr) (ts : List Stmt) (no : Option (List Stmt)) (at : Span) → stmt ≡ v.If e ts no at → WellFormedStmt (bare_stmt stmt) → WellFormedStmts (bare_stmts ts)
+yes_well_formed stmt e ts None at is w = (subst WellFormedStmt (ap bare_stmt is ∙ bare_one e ts at) w).1
+yes_well_formed stmt e ts (Some es) at is w = (subst WellFormedStmt (ap bare_stmt is ∙ bare_two e ts es at) w).1
+
+pub no_well_formed : (stmt : Stmt) (e : Expr) (ts : List Stmt) (no : Option (List Stmt)) (at : Span) → stmt ≡ v.If e ts no at → WellFormedStmt (bare_stmt stmt) → IfSome no (λ es. WellFormedStmts (bare_stmts es))
+no_well_formed stmt e ts None at is w = tt
+no_well_formed stmt e ts (Some es) at is w = (subst WellFormedStmt (ap bare_stmt is ∙ bare_two e ts es at) w).2
+
 -- ---- what a loop over statements by value has left
 
 among_well_formed : (xs : List Stmt) (x : Stmt) (ys : List Stmt) → WellFormedStmts (bare_stmts (xs ++ x ∷ ys)) → WellFormedStmt (bare_stmt x)
@@ -148,3 +172,5 @@ one_left (y ∷ z ∷ xs) x h e = absurd (omega (arith, h))
 pub ruleset lone = (one_left)
 
 pub ruleset carrying = (nest_alone, first_well_formed)
+
+pub ruleset branches = (if_tree, if_left, yes_well_formed, no_well_formed)

@@ -6,20 +6,8 @@ use Rattle.c_semantics.specs.Structure.Skeleton.{scope_after}
 use Rattle.c_tree.specs.BareOf.{bare_program, bare_stmt}
 use Rattle.c_tree.proofs.tree.Stmt.TheLaws.{the_size}
 use Rattle.canonical_nests.specs.Canonical.{program_defines}
-use Rattle.apply_rewrite.proofs.StatementMore.{both, both_left, left_step, nest_other, next_no_larger, next_well_formed, next_whole, nowhere, scope_step, tree_step}
+use Rattle.apply_rewrite.proofs.StatementMore.{left_step, nest_other, next_no_larger, next_well_formed, next_whole, nowhere, scope_step, tree_step}
 use Rattle.apply_rewrite.proofs.carrying.+carrying.Goals as goal
-
-pub carried-returns-in_ok-no-in-Some-clause-tree : goal.carried-returns-in_ok-no-in-Some-clause-tree
-carried-returns-in_ok-no-in-Some-clause-tree t c =
-    both (program_defines (bare_program c.args.defines.now)) c.args.scope.now c.carried_all-in-Some.new.scope c.args.stmt c.in-If.test c.in-If.yes c.in-Some.no c.in-If.no c.in-If.span
-    c.args.fresh.now c.carried_all-in-Some.new.fresh c.in_ok-yes-in-Some.yes c.in_ok-no-in-Some.no
-    c.in_ok-yes-in-Some.ensures.scope c.in-If.is c.in-Some.is c.in_ok-yes-in-Some.ensures.tree c.in_ok-yes-in-Some.ensures.left c.in_ok-no-in-Some.ensures.tree
-
-pub carried-returns-in_ok-no-in-Some-clause-left : goal.carried-returns-in_ok-no-in-Some-clause-left
-carried-returns-in_ok-no-in-Some-clause-left t c =
-    both_left (program_defines (bare_program c.args.defines.now)) c.args.scope.now c.carried_all-in-Some.new.scope c.args.stmt c.in-If.test c.in-If.yes c.in-Some.no c.in-If.no c.in-If.span
-    c.args.fresh.now c.carried_all-in-Some.new.fresh _
-    c.in_ok-yes-in-Some.ensures.scope c.in-If.is c.in-Some.is c.in_ok-yes-in-Some.ensures.left c.in_ok-no-in-Some.ensures.left
 
 pub carried_all-carried-requires : goal.carried_all-carried-requires
 carried_all-carried-requires t c =
