@@ -4,7 +4,6 @@ use Rattle.std.specs.Prelude.{◌&&◌, not, nat_le, nat_lt, unwrap_or, if◌the
 use Rattle.std.specs.List.{list_any}
 use Rattle.std.proofs.lemmas.Bool.{leb-true, and_parts, or_parts}
 use Rattle.c_tree.specs.Bare as b
-use Rattle.c_tree.specs.Bare.{Name}
 use Rattle.c_tree.specs.Placed.{expr_list, Exprs, no_exprs, more_exprs, Directive, directive, Clauses, no_clauses, more_clauses, clause, ClauseKind, sizes, permutation, counts, looprange, full, partial, apply, Items, no_items, more_items, nothing, acts}
 use Rattle.c_tree.specs.Forget.{forget_expr, forget_exprs, forget_clauses, forget_kind, forget_items, forget_directive}
 use Rattle.c_tree.specs.declared.tree.Kind.{Kind}

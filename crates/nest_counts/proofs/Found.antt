@@ -324,7 +324,7 @@ enough_loops c ds o es e = by (all_at_least (takes c) ds) refl e
     by false d e = absurd (cc)
 
 mutual
-  pub plan_found : (p : PlacedPlan) (k : ℕ) (ps : List Part) (es : List ℕ) → ArgumentsFit (forget_plan p) → 0 < length ps → MayStandAt p k → AllReach k ps → depths (forget_plan p) (lengths_below k ps) ≡ Some es
+  plan_found : (p : PlacedPlan) (k : ℕ) (ps : List Part) (es : List ℕ) → ArgumentsFit (forget_plan p) → 0 < length ps → MayStandAt p k → AllReach k ps → depths (forget_plan p) (lengths_below k ps) ≡ Some es
       → HasNone (counts.plan_breaches p k ps) → Finds (forget_plan p) k ps × Reaches k es (plan_kinds (forget_plan p) k ps)
   plan_found (plan c at w) k ps es fit some may r e none =
       let q = enough_loops c (lengths_below k ps) (applied_depths c (forget_items w) (transformed_depths c (lengths_below k ps))) es e in

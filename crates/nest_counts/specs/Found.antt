@@ -27,7 +27,7 @@ ArgumentFits (tile ss) = AllPositive ss
 ArgumentFits (interchange ps) = IsOrder ps
 ArgumentFits _ = Unit {0}
 
--- no item is `fuse`
+-- a directive or an item other than `fuse`
 abbrev pub IsNoFuse : Plan → Type 0
 IsNoFuse (plan (fuse r) w) = ⊥
 IsNoFuse _ = Unit {0}
