@@ -1,4 +1,5 @@
 pub mod Applied
+pub mod BackwardWalks
 pub mod ConstructBreaches
 pub mod DefineValues
 pub mod Dependences
@@ -10,6 +11,7 @@ pub mod ItemBreaches
 pub mod KnownCounts
 pub mod Lookups
 pub mod MovedKinds
+pub mod Parameters
 pub mod Parts
 pub mod PlannedDirectives
 pub mod PositionLists
@@ -20,3 +22,4 @@ pub mod Tiles
 pub mod Transforms
 pub mod TripCounts
 pub mod WantedKinds
+pub mod WellFormedItems
