@@ -1,3 +1,4 @@
 pub mod Affected
 pub mod Own
 pub mod Seen
+pub mod Shape

@@ -4,3 +4,5 @@
 pub mod affected;
 pub mod constructs;
 pub mod seen;
+pub mod shape;
+pub mod shapes;

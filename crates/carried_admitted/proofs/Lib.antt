@@ -1,0 +1,6 @@
+pub mod Tests
+pub mod Reversals
+pub mod Visible
+pub mod Heads
+pub mod Walk
+pub mod Programs

@@ -1,0 +1,5 @@
+pub mod Tests
+pub mod SpentNames
+pub mod KnownNames
+pub mod FromZero
+pub mod LoopsAsked
