@@ -19,7 +19,7 @@ use Rattle.canonical_nests.specs.LoopRules.Programs.{first_directive, nest_breac
 use Rattle.carried_out.specs.AllReverse.{all_reverse}
 use Rattle.carried_out.specs.CarriedOut.{carried_out}
 use Rattle.carried_out.specs.Reversible.{is_reversible_program}
-use Rattle.carried_admitted.proofs.Tests.{neither_breaks}
+use Rattle.canonical_nests.proofs.BreachSets.{neither_breaks}
 use Rattle.carried_admitted.proofs.Programs.{reversible_items, nothing_seen}
 use Rattle.carried_heights.proofs.Admitted.{admitted_low}
 use Rattle.carried_names.proofs.Rules.{admitted_breaks_none}

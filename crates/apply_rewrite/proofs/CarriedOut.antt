@@ -25,7 +25,7 @@ use Rattle.apply_rewrite.specs.Rewritten.{IsSimple, Rewritten, same, in_if, in_i
 use Rattle.apply_rewrite.specs.Rewritten as rewritten
 use Rattle.carried_out.specs.CarriedOut.{Made, made_leaf, made_block, planned, variable_type, with_type, where_typed, loop_at, scope_below, carried, carried_all, nest, nest_in}
 use Rattle.carried_out.specs.Reversible.{stays_in, all_stay_in, is_reversal, is_reversible, are_reversible, is_nest, is_nest_in}
-use Rattle.carried_out.proofs.Tests.{left_true, right_true}
+use Rattle.std.proofs.lemmas.Bool.{and_parts}
 use Rattle.apply_rewrite.proofs.NamesMore.{AnyCall, names_more, uses_more, all_more, part_more, if_more}
 use Rattle.apply_rewrite.proofs.HeadNames.{Named, NamedIf, canonical_named}
 use Rattle.carried_out.proofs.SpentNames.{Spent, spent_many, are_many, draws, length_draws, all_apart, among_differs, draws_spent}
@@ -213,14 +213,14 @@ module _ (ds : List Define) where
           later = g.later;
         }
     good_stmt s (if_else e a b) h w f d u =
-        let g = good_stmts s a (left_true _ _ h) w.1 f d u.1 in
+        let g = good_stmts s a (and_parts _ _ h).0 w.1 f d u.1 in
         let m = carried_all ds s a f in
-        let k = good_stmts s b (right_true (are_reversible ds s a) _ h) w.2 m.left g.digits (all_more (Spent f) (Spent m.left) g.later b u.2) in
+        let k = good_stmts s b (and_parts (are_reversible ds s a) _ h).1 w.2 m.left g.digits (all_more (Spent f) (Spent m.left) g.later b u.2) in
         let later = λ (y : Name) (t : Spent f y). k.later y (g.later y t) in
         record {
           related = in_if_else e g.related k.related;
           named = (names_more (Spent f) _ later e u.0, all_more (Spent m.left) _ k.later m.tree g.named, k.named);
-          stays = λ t. (g.stays (left_true _ _ t), k.stays (right_true (all_stay_in a) _ t));
+          stays = λ t. (g.stays (and_parts _ _ t).0, k.stays (and_parts (all_stay_in a) _ t).1);
           plain = (g.plain, k.plain);
           digits = k.digits;
           later = later;
@@ -263,19 +263,19 @@ module _ (ds : List Define) where
     good_stmt s continue_ h w f d u = kept s continue_ tt f d u (λ e. tt) tt
     good_stmt s empty h w f d u = kept s empty tt f d u (λ e. tt) tt
     good_stmt s (omp d a) h w f digits u =
-        stacked d (left_true (is_reversal (plan_of ds d)) _ h) s a f (nest ds s a f) (good_nest s a (right_true (is_reversal (plan_of ds d)) _ h) w.1 f digits u)
+        stacked d (and_parts (is_reversal (plan_of ds d)) _ h).0 s a f (nest ds s a f) (good_nest s a (and_parts (is_reversal (plan_of ds d)) _ h).1 w.1 f digits u)
     good_stmt s (call x es) h w f d u = kept s (call x es) tt f d u (λ e. tt) tt
 
     pub good_stmts : (s : State) (a : Stmts) → are_reversible ds s a ≡ true → WellFormedStmts a → (f : FreshNames) → AreDigits f.digits → UsesAll (Spent f) AnyCall a → AllGood s a f (carried_all ds s a f)
     good_stmts s no_stmts h w f d u = record { related = none; named = tt; stays = λ t. tt; plain = tt; digits = d; later = λ y t. t }
     good_stmts s (more_stmts a as') h w f d u =
-        let g = good_stmt s a (left_true _ _ h) w.0 f d u.0 in
+        let g = good_stmt s a (and_parts _ _ h).0 w.0 f d u.0 in
         let m = carried ds s a f in
-        let k = good_stmts (scope_after a s) as' (right_true (is_reversible ds s a) _ h) w.1 m.left g.digits (all_more (Spent f) (Spent m.left) g.later as' u.1) in
+        let k = good_stmts (scope_after a s) as' (and_parts (is_reversible ds s a) _ h).1 w.1 m.left g.digits (all_more (Spent f) (Spent m.left) g.later as' u.1) in
         record {
           related = more g.related k.related;
           named = (uses_more (Spent m.left) _ k.later m.tree g.named, k.named);
-          stays = λ t. (g.stays (left_true _ _ t), k.stays (right_true (stays_in a) _ t));
+          stays = λ t. (g.stays (and_parts _ _ t).0, k.stays (and_parts (stays_in a) _ t).1);
           plain = (g.plain, k.plain);
           digits = k.digits;
           later = λ y t. k.later y (g.later y t);
@@ -288,10 +288,10 @@ module _ (ds : List Define) where
 
     good_nest_in : (s : State) (a : Stmt) → is_nest_in ds s a ≡ true → WellFormedStmt a → (f : FreshNames) → AreDigits f.digits → Uses (Spent f) AnyCall a → GoodNest s (only a) f (nest_in ds s a f)
     good_nest_in s (for_ (head i e next) a) h w f d u =
-        let rest = right_true (is_some (loop_at ds s (head i e next))) _ h in
-        loop_nest s i e next a f (left_true _ _ rest) (canonical ds (head i e next)) refl (canonical_named (Spent f) ds i e next u.0 u.1) (left_true _ _ h)
-        (good_stmts (scope_below s (loop_at ds s (head i e next))) a (right_true (all_stay_in a) _ rest) w.1 f d u.3)
+        let rest = (and_parts (is_some (loop_at ds s (head i e next))) _ h).1 in
+        loop_nest s i e next a f (and_parts _ _ rest).0 (canonical ds (head i e next)) refl (canonical_named (Spent f) ds i e next u.0 u.1) (and_parts _ _ h).0
+        (good_stmts (scope_below s (loop_at ds s (head i e next))) a (and_parts (all_stay_in a) _ rest).1 w.1 f d u.3)
     good_nest_in s (block a) h w f d u = braced s a f (nest ds s a f) (good_nest s a h w f d u)
     good_nest_in s (omp d a) h w f digits u =
-        directed d (left_true (is_reversal (plan_of ds d)) _ h) s a f (nest ds s a f) (good_nest s a (right_true (is_reversal (plan_of ds d)) _ h) w.1 f digits u)
+        directed d (and_parts (is_reversal (plan_of ds d)) _ h).0 s a f (nest ds s a f) (good_nest s a (and_parts (is_reversal (plan_of ds d)) _ h).1 w.1 f digits u)
     good_nest_in s a h w f d u = absurd (both_ways false refl h)

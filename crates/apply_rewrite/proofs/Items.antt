@@ -16,7 +16,7 @@ use Rattle.carried_out.specs.Reversible.{are_reversible, are_reversible_items}
 use Rattle.apply_rewrite.proofs.NamesMore.{AnyCall, all_more}
 use Rattle.carried_out.proofs.SpentNames.{Spent}
 use Rattle.apply_rewrite.proofs.CarriedOut.{good_stmts}
-use Rattle.carried_out.proofs.Tests.{left_true, right_true}
+use Rattle.std.proofs.lemmas.Bool.{and_parts}
 
 -- the names of the bodies
 abbrev pub BodiesUse : (Name → Type 0) → Program → Type 0
@@ -41,14 +41,14 @@ pub record GoodItems (ds : List Define) (s : State) (is js : Program) : Type 0 w
 pub good_items : (is : Program) (ds : List Define) (s : State) → are_reversible_items ds s is ≡ true → WellFormedTops is → (f : FreshNames) → AreDigits f.digits → BodiesUse (Spent f) is → GoodItems ds s is (carried_items ds s is f).tree
 good_items [] ds s h w f d u = record { related = tt; plain = tt }
 good_items (function x ps a ∷ is) ds s h w f d u =
-    let g = good_stmts ds (with_params ps s) a (left_true _ _ h) w.0.2 f d u.0 in
+    let g = good_stmts ds (with_params ps s) a (and_parts _ _ h).0 w.0.2 f d u.0 in
     let m = carried_all ds (with_params ps s) a f in
-    let rest = good_items is ds s (right_true (are_reversible ds (with_params ps s) a) _ h) w.1 m.left g.digits (bodies_more (Spent f) (Spent m.left) g.later is u.1) in
+    let rest = good_items is ds s (and_parts (are_reversible ds (with_params ps s) a) _ h).1 w.1 m.left g.digits (bodies_more (Spent f) (Spent m.left) g.later is u.1) in
     record { related = ((refl, refl, g.related), rest.related); plain = (g.plain, rest.plain) }
 good_items (main a ∷ is) ds s h w f d u =
-    let g = good_stmts ds s a (left_true _ _ h) w.0 f d u.0 in
+    let g = good_stmts ds s a (and_parts _ _ h).0 w.0 f d u.0 in
     let m = carried_all ds s a f in
-    let rest = good_items is ds s (right_true (are_reversible ds s a) _ h) w.1 m.left g.digits (bodies_more (Spent f) (Spent m.left) g.later is u.1) in
+    let rest = good_items is ds s (and_parts (are_reversible ds s a) _ h).1 w.1 m.left g.digits (bodies_more (Spent f) (Spent m.left) g.later is u.1) in
     record { related = (g.related, rest.related); plain = (g.plain, rest.plain) }
 good_items (define x minus k t ∷ is) ds s h w f d u =
     let rest = good_items is (defines_with ds (define x minus k t)) s h w.1 f d u in

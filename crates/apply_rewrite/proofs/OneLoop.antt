@@ -15,7 +15,7 @@ use Rattle.apply_rewrite.specs.NoDirectives.{NoDirectives}
 use Rattle.carried_out.specs.Reversible.{is_reversal, are_reversals}
 use Rattle.apply_rewrite.specs.ReverseStacks.{times_after, times_after_items, reversed_all}
 use Rattle.carried_out.specs.CarriedOut.{made_reverse, planned, items_applied}
-use Rattle.carried_out.proofs.Tests.{left_true, right_true}
+use Rattle.std.proofs.lemmas.Bool.{and_parts}
 use Rattle.apply_rewrite.proofs.NamesMore.{AnyCall}
 use Rattle.carried_out.proofs.SpentNames.{draws, Each}
 
@@ -45,8 +45,8 @@ mutual
       items_applied w (record { tree = reversed_all (draws k f) (one_loop front c b ps); left = after_draws k f }) ≡ record { tree = reversed_all (draws (times_after_items w k) f) (one_loop front c b ps); left = after_draws (times_after_items w k) f }
   items_last none_applied h k f front c b ps = refl
   items_last (applied_at p d w) h k f front c b ps =
-      let rest = right_true (nat_le p 1) _ h in
-      ap (items_applied w) (planned_last d (left_true (is_reversal d) _ rest) k f front c b ps) ∙ items_last w (right_true (is_reversal d) _ rest) (times_after d k) f front c b ps
+      let rest = (and_parts (nat_le p 1) _ h).1 in
+      ap (items_applied w) (planned_last d (and_parts (is_reversal d) _ rest).0 k f front c b ps) ∙ items_last w (and_parts (is_reversal d) _ rest).1 (times_after d k) f front c b ps
 
 -- ---- its names
 

@@ -8,7 +8,7 @@ use Rattle.c_semantics.specs.Structure.Parts as shape
 use Rattle.c_semantics.specs.Structure.Parts.{Part, plan_parts, applied_parts}
 use Rattle.carried_out.specs.Reversible.{is_reversal, are_reversals}
 use Rattle.carried_out.proofs.LoopsAsked.{at_first}
-use Rattle.carried_out.proofs.Tests.{left_true, right_true}
+use Rattle.std.proofs.lemmas.Bool.{and_parts}
 use Rattle.apply_rewrite.specs.ReverseStacks.{times_after, times_after_items}
 
 -- ---- the trees
@@ -43,10 +43,10 @@ mutual
   trees_reversed_by : (w : Applied) → are_reversals w ≡ true → (k : ℕ) (t : Tree) → apply_items reverse_ w (stacked k (t ∷ [])) ≡ stacked (times_after_items w k) (t ∷ [])
   trees_reversed_by none_applied h k t = refl
   trees_reversed_by (applied_at p d w) h k t =
-      let rest = right_true (nat_le p 1) _ h in
+      let rest = (and_parts (nat_le p 1) _ h).1 in
       let one = one_tree k t in
-      ap (apply_items reverse_ w) (on_first_tree p (apply_plan d) (stacked k (t ∷ [])) one.0 (left_true (nat_le p 1) _ h) one.1 ∙ trees_reversed d (left_true (is_reversal d) _ rest) k t)
-      ∙ trees_reversed_by w (right_true (is_reversal d) _ rest) (times_after d k) t
+      ap (apply_items reverse_ w) (on_first_tree p (apply_plan d) (stacked k (t ∷ [])) one.0 (and_parts (nat_le p 1) _ h).0 one.1 ∙ trees_reversed d (and_parts (is_reversal d) _ rest).0 k t)
+      ∙ trees_reversed_by w (and_parts (is_reversal d) _ rest).1 (times_after d k) t
 
 -- ---- the parts
 
@@ -66,6 +66,6 @@ mutual
   part_kept_by : (w : Applied) → are_reversals w ≡ true → (q : Part) → applied_parts reverse_ w (q ∷ []) ≡ q ∷ []
   part_kept_by none_applied h q = refl
   part_kept_by (applied_at p d w) h q =
-      let rest = right_true (nat_le p 1) _ h in
-      ap (applied_parts reverse_ w) (on_first_part p (plan_parts d) q (left_true (nat_le p 1) _ h) ∙ part_kept d (left_true (is_reversal d) _ rest) q)
-      ∙ part_kept_by w (right_true (is_reversal d) _ rest) q
+      let rest = (and_parts (nat_le p 1) _ h).1 in
+      ap (applied_parts reverse_ w) (on_first_part p (plan_parts d) q (and_parts (nat_le p 1) _ h).0 ∙ part_kept d (and_parts (is_reversal d) _ rest).0 q)
+      ∙ part_kept_by w (and_parts (is_reversal d) _ rest).1 q

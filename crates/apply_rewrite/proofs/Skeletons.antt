@@ -26,7 +26,7 @@ use Rattle.carried_out.specs.CarriedOut.{Made, made_leaf, made_reverse, planned,
 use Rattle.carried_out.specs.Reversible.{all_stay_in, is_reversal, are_reversals, is_reversible, are_reversible, is_nest, is_nest_in, are_reversible_items, is_reversible_program}
 use Rattle.carried_out.proofs.FromZero.{stays_from_zero}
 use Rattle.carried_out.proofs.LoopsAsked.{asks_one}
-use Rattle.carried_out.proofs.Tests.{left_true, right_true}
+use Rattle.std.proofs.lemmas.Bool.{and_parts}
 use Rattle.apply_rewrite.proofs.Reversals.{part_kept}
 
 module _ (ds : List Define) where
@@ -89,8 +89,8 @@ module _ (ds : List Define) where
     items_outlined : (w : Applied) → are_reversals w ≡ true → (m : Made Gen) (xs : List Shape) → Outlined m.tree xs → Outlined (items_applied w m).tree xs
     items_outlined none_applied h m xs o = o
     items_outlined (applied_at p d w) h m xs o =
-        let rest = right_true (nat_le p 1) _ h in
-        items_outlined w (right_true (is_reversal d) _ rest) (planned d m) xs (planned_outlined d (left_true (is_reversal d) _ rest) m xs o)
+        let rest = (and_parts (nat_le p 1) _ h).1 in
+        items_outlined w (and_parts (is_reversal d) _ rest).1 (planned d m) xs (planned_outlined d (and_parts (is_reversal d) _ rest).0 m xs o)
 
   emitted : (g : Gen) (xs : List Shape) → Outlined g xs → (s : State) → all_shapes ds s (emit g) ≡ round For (shapes_of xs) ∷ []
   emitted g xs o = o.front (parts_stmts g.parts) (round For (shapes_of xs) ∷ []) (λ u.
@@ -155,8 +155,8 @@ module _ (ds : List Define) where
     alike v empty h f = record { shown = []; source = λ s. refl; result = λ s. refl }
     alike v (if_ e a) h f = let k = all_alike v a h f in record { shown = k.shown; source = k.source; result = k.result }
     alike v (if_else e a b) h f =
-        let k = all_alike v a (left_true _ _ h) f in
-        let l = all_alike v b (right_true (are_reversible ds v a) _ h) (carried_all ds v a f).left in
+        let k = all_alike v a (and_parts _ _ h).0 f in
+        let l = all_alike v b (and_parts (are_reversible ds v a) _ h).1 (carried_all ds v a f).left in
         record {
           shown = k.shown ++ l.shown;
           source = λ s. ap (λ z. z ++ all_shapes ds s b) (k.source s) ∙ ap (λ z. k.shown ++ z) (l.source s);
@@ -185,15 +185,15 @@ module _ (ds : List Define) where
         }
     alike v (block a) h f = let k = all_alike v a h f in record { shown = k.shown; source = k.source; result = k.result }
     alike v (omp d a) h f =
-        of_construct d (left_true (is_reversal (plan_of ds d)) _ h) a (nest ds v a f) (one_loop v a (right_true (is_reversal (plan_of ds d)) _ h) f)
+        of_construct d (and_parts (is_reversal (plan_of ds d)) _ h).0 a (nest ds v a f) (one_loop v a (and_parts (is_reversal (plan_of ds d)) _ h).1 f)
 
     all_alike : (v : State) (a : Stmts) → are_reversible ds v a ≡ true → (f : FreshNames) → AllAlike a (carried_all ds v a f).tree
     all_alike v no_stmts h f = record { shown = []; source = λ s. refl; result = λ s. refl }
     all_alike v (more_stmts a as') h f =
-        let k = alike v a (left_true _ _ h) f in
+        let k = alike v a (and_parts _ _ h).0 f in
         let m = carried ds v a f in
         let w = scope_after a v in
-        let l = all_alike w as' (right_true (is_reversible ds v a) _ h) m.left in
+        let l = all_alike w as' (and_parts (is_reversible ds v a) _ h).1 m.left in
         record {
           shown = k.shown ++ l.shown;
           source = λ s. ap (λ z. z ++ all_shapes ds (scope_after a s) as') (k.source s) ∙ ap (λ z. k.shown ++ z) (l.source (scope_after a s));
@@ -209,10 +209,10 @@ module _ (ds : List Define) where
     one_loop_in v (for_ (head i e next) a) h f =
         let l = loop_at ds v (head i e next) in
         let u = scope_below v l in
-        the_loop i e next a (carried_all ds u a f) (all_alike u a (right_true (all_stay_in a) _ (right_true (is_some l) _ h)) f) l (left_true _ _ h)
+        the_loop i e next a (carried_all ds u a f) (all_alike u a (and_parts (all_stay_in a) _ (and_parts (is_some l) _ h).1).1 f) l (and_parts _ _ h).0
     one_loop_in v (block a) h f = in_braces a (nest ds v a f).tree (one_loop v a h f)
     one_loop_in v (omp d a) h f =
-        one_more d (left_true (is_reversal (plan_of ds d)) _ h) a (nest ds v a f) (one_loop v a (right_true (is_reversal (plan_of ds d)) _ h) f)
+        one_more d (and_parts (is_reversal (plan_of ds d)) _ h).0 a (nest ds v a f) (one_loop v a (and_parts (is_reversal (plan_of ds d)) _ h).1 f)
     one_loop_in v a h f = absurd (both_ways false refl h)
 
 -- ---- programs
@@ -226,11 +226,11 @@ same_from ds v (define x minus k t ∷ is) h f s u = same_from (defines_with ds 
 same_from ds v (extern_ port ∷ is) h f s u = same_from ds v is h f s u
 same_from ds v (global t x dims e ∷ is) h f s u = same_from ds (scope_with v (global t x dims e)) is h f _ _
 same_from ds v (function x ps a ∷ is) h f s u =
-    let k = all_alike ds (with_params ps v) a (left_true _ _ h) f in
-    both _ _ _ _ (k.result _ ∙ sym (k.source _)) (same_from ds v is (right_true (are_reversible ds (with_params ps v) a) _ h) (carried_top ds v (function x ps a) f).left s u)
+    let k = all_alike ds (with_params ps v) a (and_parts _ _ h).0 f in
+    both _ _ _ _ (k.result _ ∙ sym (k.source _)) (same_from ds v is (and_parts (are_reversible ds (with_params ps v) a) _ h).1 (carried_top ds v (function x ps a) f).left s u)
 same_from ds v (main a ∷ is) h f s u =
-    let k = all_alike ds v a (left_true _ _ h) f in
-    both _ _ _ _ (k.result _ ∙ sym (k.source _)) (same_from ds v is (right_true (are_reversible ds v a) _ h) (carried_top ds v (main a) f).left s u)
+    let k = all_alike ds v a (and_parts _ _ h).0 f in
+    both _ _ _ _ (k.result _ ∙ sym (k.source _)) (same_from ds v is (and_parts (are_reversible ds v a) _ h).1 (carried_top ds v (main a) f).left s u)
 
 pub same_skeleton : (p : Program) → is_reversible_program p ≡ true → skeleton (carried_out p) ≡ skeleton p
 same_skeleton p h = same_from [] nowhere p h _ _ _

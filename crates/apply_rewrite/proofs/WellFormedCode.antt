@@ -33,7 +33,7 @@ use Rattle.permute_reverse.specs.Reversed.{reversed, reversed_gen}
 use Rattle.carried_out.specs.CarriedOut.{Made, made_leaf, variable_type, with_type, where_typed, loop_at, scope_below, in_head, planned, items_applied, carried, carried_all, nest, nest_in, made_reverse, carried_top, carried_items, carried_out}
 use Rattle.carried_out.specs.Reversible.{all_stay_in, is_reversal, is_reversible, are_reversible, is_nest, is_nest_in, are_reversible_items, is_reversible_program}
 use Rattle.carried_out.proofs.FromZero.{stays_from_zero, draws_none}
-use Rattle.carried_out.proofs.Tests.{left_true, right_true, both_true}
+use Rattle.std.proofs.lemmas.Bool.{and_parts, and_from}
 
 -- ---- drawn names
 
@@ -72,13 +72,13 @@ or_true true = refl
 or_true false = refl
 
 digit_in_word : (d : ℕ) → 48 ≤ d → d ≤ 57 → in_word d ≡ true
-digit_in_word d h k = ap (λ b. is_letter d || b) (both_true _ _ (le-leb 48 d h) (le-leb d 57 k)) ∙ or_true (is_letter d)
+digit_in_word d h k = ap (λ b. is_letter d || b) (and_from _ _ (le-leb 48 d h) (le-leb d 57 k)) ∙ or_true (is_letter d)
 
 all_in_word : (ds : List ℕ) → AreDecimal ds → list_all in_word (reverse ds) ≡ true
 all_in_word [] h = refl
 all_in_word (d ∷ ds) h =
     ap (list_all in_word) (reverse-append (d ∷ []) ds) ∙ list_all-append in_word (reverse ds) (d ∷ [])
-    ∙ both_true _ _ (all_in_word ds h.2) (both_true _ _ (digit_in_word d h.0 h.1) refl)
+    ∙ and_from _ _ (all_in_word ds h.2) (and_from _ _ (digit_in_word d h.0 h.1) refl)
 
 numbered_name : (ds : List ℕ) → AreDecimal ds → IsName (numbered ds)
 numbered_name ds h = subst (λ b. IsTrue (b && not (is_among (numbered ds) keywords))) (sym (all_in_word ds h)) refl
@@ -159,7 +159,7 @@ step_well i t None h k = tt
 step_well i t (Some z) h k = by (is_step_for t.op z) refl
   where
     by : (b : Bool) → is_step_for t.op z ≡ b → WellIf (if b then Some (record { var = i.var; ty = i.ty; lb = i.lb; ub = t.ub; test = t.op; step = z }) else None)
-    by true e = record { var = h.0; lb = h.1; ub = k; step = ltb-true (nat_abs z) (2 ^ 63) (right_true (fits_test t.op z) _ e) }
+    by true e = record { var = h.0; lb = h.1; ub = k; step = ltb-true (nat_abs z) (2 ^ 63) (and_parts (fits_test t.op z) _ e).1 }
     by false e = tt
 
 tested_well : (ds : List Define) (m : MaybeStmt) (i : Init) (t : Option Test) → IsName i.var × WellFormedExpr i.lb → TestWell t → WellIf (with_test ds m i t)
@@ -314,8 +314,8 @@ module _ (ds : List Define) where
     well_stmt s empty h w f d = record { tree = w; digits = d }
     well_stmt s (if_ e a) h w f d = let k = well_stmts s a h w.1 f d in record { tree = (w.0, k.tree); digits = k.digits }
     well_stmt s (if_else e a b) h w f d =
-        let k = well_stmts s a (left_true _ _ h) w.1 f d in
-        let l = well_stmts s b (right_true (are_reversible ds s a) _ h) w.2 (carried_all ds s a f).left k.digits in
+        let k = well_stmts s a (and_parts _ _ h).0 w.1 f d in
+        let l = well_stmts s b (and_parts (are_reversible ds s a) _ h).1 w.2 (carried_all ds s a f).left k.digits in
         record { tree = (w.0, k.tree, l.tree); digits = l.digits }
     well_stmt s (while_ e a) h w f d = let k = well_stmts s a h w.1 f d in record { tree = (w.0, k.tree); digits = k.digits }
     well_stmt s (do_ a e) h w f d = let k = well_stmts s a h w.0 f d in record { tree = (k.tree, w.1); digits = k.digits }
@@ -323,14 +323,14 @@ module _ (ds : List Define) where
     well_stmt s (block a) h w f d = let k = well_stmts s a h w f d in record { tree = k.tree; digits = k.digits }
     well_stmt s (omp d a) h w f digits =
         let m = nest ds s a f in
-        let k = planned_well (plan_of ds d) m (well_nest s a (right_true (is_reversal (plan_of ds d)) _ h) w.1 f digits) in
+        let k = planned_well (plan_of ds d) m (well_nest s a (and_parts (is_reversal (plan_of ds d)) _ h).1 w.1 f digits) in
         record { tree = emitted_well (planned (plan_of ds d) m).tree k.gen; digits = k.digits }
 
     well_stmts : (s : State) (a : Stmts) → are_reversible ds s a ≡ true → WellFormedStmts a → (f : FreshNames) → AreDecimal f.digits → WellStmts (carried_all ds s a f)
     well_stmts s no_stmts h w f d = record { tree = tt; digits = d }
     well_stmts s (more_stmts a as') h w f d =
-        let k = well_stmt s a (left_true _ _ h) w.0 f d in
-        let l = well_stmts (scope_after a s) as' (right_true (is_reversible ds s a) _ h) w.1 (carried ds s a f).left k.digits in
+        let k = well_stmt s a (and_parts _ _ h).0 w.0 f d in
+        let l = well_stmts (scope_after a s) as' (and_parts (is_reversible ds s a) _ h).1 w.1 (carried ds s a f).left k.digits in
         record { tree = (k.tree, l.tree); digits = l.digits }
 
     well_nest : (s : State) (a : Stmts) → is_nest ds s a ≡ true → WellFormedStmts a → (f : FreshNames) → AreDecimal f.digits → WellNest (nest ds s a f)
@@ -341,12 +341,12 @@ module _ (ds : List Define) where
     well_nest_in : (s : State) (a : Stmt) → is_nest_in ds s a ≡ true → WellFormedStmt a → (f : FreshNames) → AreDecimal f.digits → WellNest (nest_in ds s a f)
     well_nest_in s (for_ (head i e next) a) h w f d =
         let l = loop_at ds s (head i e next) in
-        let rest = right_true (is_some l) _ h in
-        the_loop_well l (carried_all ds (scope_below s l) a f) (left_true _ _ h)
+        let rest = (and_parts (is_some l) _ h).1 in
+        the_loop_well l (carried_all ds (scope_below s l) a f) (and_parts _ _ h).0
         (typed_well s (canonical ds (head i e next)) (begun_well ds e next (init i) w.0.2 (init_well i w.0.1)))
-        (well_stmts (scope_below s l) a (right_true (all_stay_in a) _ rest) w.1 f d)
+        (well_stmts (scope_below s l) a (and_parts (all_stay_in a) _ rest).1 w.1 f d)
     well_nest_in s (block a) h w f d = well_nest s a h w f d
-    well_nest_in s (omp d a) h w f digits = planned_well (plan_of ds d) (nest ds s a f) (well_nest s a (right_true (is_reversal (plan_of ds d)) _ h) w.1 f digits)
+    well_nest_in s (omp d a) h w f digits = planned_well (plan_of ds d) (nest ds s a f) (well_nest s a (and_parts (is_reversal (plan_of ds d)) _ h).1 w.1 f digits)
     well_nest_in s a h w f d = absurd (both_ways false refl h)
 
 -- ---- programs
@@ -357,11 +357,11 @@ well_items ds s (define x minus k t ∷ is) h w f d = (w.0, well_items (defines_
 well_items ds s (extern_ port ∷ is) h w f d = (w.0, well_items ds s is h w.1 f d)
 well_items ds s (global t x dims e ∷ is) h w f d = (w.0, well_items ds (scope_with s (global t x dims e)) is h w.1 f d)
 well_items ds s (function x ps a ∷ is) h w f d =
-    let k = well_stmts ds (with_params ps s) a (left_true _ _ h) w.0.2 f d in
-    ((w.0.0, w.0.1, k.tree), well_items ds s is (right_true (are_reversible ds (with_params ps s) a) _ h) w.1 (carried_top ds s (function x ps a) f).left k.digits)
+    let k = well_stmts ds (with_params ps s) a (and_parts _ _ h).0 w.0.2 f d in
+    ((w.0.0, w.0.1, k.tree), well_items ds s is (and_parts (are_reversible ds (with_params ps s) a) _ h).1 w.1 (carried_top ds s (function x ps a) f).left k.digits)
 well_items ds s (main a ∷ is) h w f d =
-    let k = well_stmts ds s a (left_true _ _ h) w.0 f d in
-    (k.tree, well_items ds s is (right_true (are_reversible ds s a) _ h) w.1 (carried_top ds s (main a) f).left k.digits)
+    let k = well_stmts ds s a (and_parts _ _ h).0 w.0 f d in
+    (k.tree, well_items ds s is (and_parts (are_reversible ds s a) _ h).1 w.1 (carried_top ds s (main a) f).left k.digits)
 
 same_kind : (ds : List Define) (s : State) (i : Top) (f : FreshNames) → is_main (carried_top ds s i f).tree ≡ is_main i
 same_kind ds s (define x minus k t) f = refl

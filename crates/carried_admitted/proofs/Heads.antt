@@ -23,7 +23,7 @@ use Rattle.loop_normal.specs.Templates.{SourceLoop}
 use Rattle.loop_normal.specs.Laws.{source_loop}
 use Rattle.carried_out.specs.Reversible.{stays_in, all_stay_in}
 use Rattle.c_scopes.specs.Types.{type_seen}
-use Rattle.carried_out.proofs.Tests.{both_true}
+use Rattle.std.proofs.lemmas.Bool.{and_from}
 use Rattle.carried_admitted.proofs.Visible.{Sees, seen_inside, seen_below, seen_declared, next_adds_nothing, is_variable}
 
 -- ---- the form of the head
@@ -112,14 +112,14 @@ mutual
   stays (break_ s) h = absurd (cc)
   stays (if_ e a s) h = all_stay a h
   stays (if_else e a c s) h =
-      let k = empty_parts (breaks_in a) (breaks_in c) h in both_true (all_stay_in (forget_stmts a)) (all_stay_in (forget_stmts c)) (all_stay a k.0) (all_stay c k.1)
+      let k = empty_parts (breaks_in a) (breaks_in c) h in and_from (all_stay_in (forget_stmts a)) (all_stay_in (forget_stmts c)) (all_stay a k.0) (all_stay c k.1)
   stays (block a s) h = all_stay a h
   stays _ h = refl
 
   all_stay : (a : Stmts) → breaks_in a ≡ [] → all_stay_in (forget_stmts a) ≡ true
   all_stay no_stmts h = refl
   all_stay (more_stmts a as') h =
-      let k = empty_parts (breaks a) (breaks_in as') h in both_true (stays_in (forget_stmt a)) (all_stay_in (forget_stmts as')) (stays a k.0) (all_stay as' k.1)
+      let k = empty_parts (breaks a) (breaks_in as') h in and_from (stays_in (forget_stmt a)) (all_stay_in (forget_stmts as')) (stays a k.0) (all_stay as' k.1)
 
 pub no_break_leaves : (a : Stmts) → HasNone (break_breaches (breaks_in a)) → all_stay_in (forget_stmts a) ≡ true
 no_break_leaves a h = all_stay a (no_places (breaks_in a) h)

@@ -1,4 +1,3 @@
-pub mod Tests
 pub mod Reversals
 pub mod Visible
 pub mod Heads

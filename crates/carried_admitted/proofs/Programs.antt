@@ -26,7 +26,7 @@ use Rattle.c_scopes.specs.Types.{type_filed, with_params}
 use Rattle.c_scopes.specs.Laws.{scope_with}
 use Rattle.carried_out.specs.AllReverse.{top_reverses_only, all_reverse}
 use Rattle.carried_out.specs.Reversible.{is_reversible_top, are_reversible_items}
-use Rattle.carried_out.proofs.Tests.{left_true, right_true, both_true}
+use Rattle.std.proofs.lemmas.Bool.{and_parts, and_from}
 use Rattle.carried_admitted.proofs.Visible.{Sees, seen_inside, seen_params, declared_name, new_name, filed_more, filed_own, held_filed}
 use Rattle.carried_admitted.proofs.Walk.{all_reversible}
 
@@ -67,9 +67,9 @@ pub reversible_items : (ds : List meaning.Define) (fs : List FunctionAccess) (k 
     → all_reverse (forget_program p) ≡ true → WellFormedTops (forget_program p) → are_reversible_items ds s (forget_program p) ≡ true
 reversible_items ds fs k s sl [] g n c r w = refl
 reversible_items ds fs k s sl (i ∷ is) g n c r w =
-    both_true (is_reversible_top ds s (forget_top i)) _
-    (reversible_item ds fs k s sl i g n.0 c.0 (left_true (top_reverses_only (forget_top i)) (all_reverse (forget_program is)) r) w.0)
-    (reversible_items (defines_with ds (forget_top i)) _ (known_after k i) (scope_with s (forget_top i)) _ is (item_seen k s i g) n.1 c.1 (right_true (top_reverses_only (forget_top i)) (all_reverse (forget_program is)) r) w.1)
+    and_from (is_reversible_top ds s (forget_top i)) _
+    (reversible_item ds fs k s sl i g n.0 c.0 (and_parts (top_reverses_only (forget_top i)) (all_reverse (forget_program is)) r).0 w.0)
+    (reversible_items (defines_with ds (forget_top i)) _ (known_after k i) (scope_with s (forget_top i)) _ is (item_seen k s i g) n.1 c.1 (and_parts (top_reverses_only (forget_top i)) (all_reverse (forget_program is)) r).1 w.1)
 
 pub nothing_seen : Sees nothing_known.scope nowhere
 nothing_seen x d h = absurd (cc)

@@ -17,22 +17,22 @@ use Rattle.canonical_nests.specs.LoopRules.Clauses.{item_list, is_constant_from,
 use Rattle.canonical_nests.specs.declared.rules.LoopRule.TheVariants.{L24, L25}
 use Rattle.carried_out.specs.AllReverse.{is_reverse, clauses_reverse, items_reverse, item_reverses}
 use Rattle.carried_out.specs.Reversible.{is_reversal, are_reversals}
-use Rattle.carried_out.proofs.Tests.{left_true, right_true, both_true}
-use Rattle.carried_admitted.proofs.Tests.{not_so}
+use Rattle.std.proofs.lemmas.Bool.{and_parts, and_from}
+use Rattle.canonical_nests.proofs.BreachSets.{none_if}
 
 -- ---- the plan of a directive
 
 inserted : (p : ℕ) (d : Plan) (w : Applied) → nat_le p 1 ≡ true → is_reversal d ≡ true → are_reversals w ≡ true → are_reversals (insert p d w) ≡ true
-inserted p d none_applied hp hd hw = both_true (nat_le p 1) (is_reversal d && true) hp (both_true (is_reversal d) true hd refl)
+inserted p d none_applied hp hd hw = and_from (nat_le p 1) (is_reversal d && true) hp (and_from (is_reversal d) true hd refl)
 inserted p d (applied_at q e w) hp hd hw =
-    by (inserted p d w hp hd (right_true (is_reversal e) (are_reversals w) (right_true (nat_le q 1) (is_reversal e && are_reversals w) hw))) (nat_lt q p)
+    by (inserted p d w hp hd (and_parts (is_reversal e) (are_reversals w) (and_parts (nat_le q 1) (is_reversal e && are_reversals w) hw).1).1) (nat_lt q p)
   where
     by : are_reversals (insert p d w) ≡ true → (t : Bool) → are_reversals (if t then applied_at p d (applied_at q e w) else applied_at q e (insert p d w)) ≡ true
-    by below true = both_true (nat_le p 1) (is_reversal d && are_reversals (applied_at q e w)) hp (both_true (is_reversal d) (are_reversals (applied_at q e w)) hd hw)
+    by below true = and_from (nat_le p 1) (is_reversal d && are_reversals (applied_at q e w)) hp (and_from (is_reversal d) (are_reversals (applied_at q e w)) hd hw)
     by below false =
-        let rest = right_true (nat_le q 1) (is_reversal e && are_reversals w) hw in
-        both_true (nat_le q 1) (is_reversal e && are_reversals (insert p d w)) (left_true (nat_le q 1) (is_reversal e && are_reversals w) hw)
-        (both_true (is_reversal e) (are_reversals (insert p d w)) (left_true (is_reversal e) (are_reversals w) rest) below)
+        let rest = (and_parts (nat_le q 1) (is_reversal e && are_reversals w) hw).1 in
+        and_from (nat_le q 1) (is_reversal e && are_reversals (insert p d w)) (and_parts (nat_le q 1) (is_reversal e && are_reversals w) hw).0
+        (and_from (is_reversal e) (are_reversals (insert p d w)) (and_parts (is_reversal e) (are_reversals w) rest).0 below)
 
 no_loops_before : (m : Option Name) → before 0 m ≡ 0
 no_loops_before None = refl
@@ -50,9 +50,9 @@ first_at : (ds : List Define) (m : Option Name) (es : Exprs) (is : Items) → in
     → nat_le (first_place (map (λ e. before 0 m + number ds e) (bare.expr_list (forget_exprs es))) (before 0 m + 1)) 1 ≡ true
 first_at ds m no_exprs is h = rw (no_loops_before m) refl
 first_at ds m (more_exprs e es) is h =
-    let from_one = left_true (are_from_one_to ds 1 (more_exprs e es)) _ h in
-    let first = left_true (is_constant_from ds 1 e && nat_le (placed_number ds e) 1) _ from_one in
-    let small : number ds (forget_expr e) ≤ 1 = leb-true _ 1 (right_true (is_constant_from ds 1 e) _ first) in
+    let from_one = (and_parts (are_from_one_to ds 1 (more_exprs e es)) _ h).0 in
+    let first = (and_parts (is_constant_from ds 1 e && nat_le (placed_number ds e) 1) _ from_one).0 in
+    let small : number ds (forget_expr e) ≤ 1 = leb-true _ 1 (and_parts (is_constant_from ds 1 e) _ first).1 in
     let none : before 0 m ≡ 0 = no_loops_before m in
     le-leb (before 0 m + number ds (forget_expr e)) 1 (omega arith)
 
@@ -86,8 +86,8 @@ mutual
   clauses_reverse_only ds (more_clauses (clause (apply m es is) s) cs) earlier taken w h b k =
       clauses_reverse_only ds cs (apply m es is ∷ earlier) (also_taken ds 1 (apply m es is) taken)
       (clause_items ds 0 (bare.apply m (forget_exprs es) (forget_items is)) w)
-      (right_true (items_reverse (forget_items is)) (clauses_reverse (forget_clauses cs)) h) b.1.1.1
-      (apply_reverses_only ds taken m es is s.start w (left_true (items_reverse (forget_items is)) (clauses_reverse (forget_clauses cs)) h) b.1.1.0 k)
+      (and_parts (items_reverse (forget_items is)) (clauses_reverse (forget_clauses cs)) h).1 b.1.1.1
+      (apply_reverses_only ds taken m es is s.start w (and_parts (items_reverse (forget_items is)) (clauses_reverse (forget_clauses cs)) h).0 b.1.1.0 k)
   clauses_reverse_only ds (more_clauses (clause _ s) cs) earlier taken w h b k = absurd b.1.0
 
   apply_reverses_only : (ds : List Define) (taken : List ℕ) (m : Option Name) (es : Exprs) (is : Items) (at : ℕ) (w : Applied)
@@ -96,8 +96,8 @@ mutual
       → are_reversals (put_items ds (map (λ e. before 0 m + number ds e) (bare.expr_list (forget_exprs es))) (before 0 m + 1) (forget_items is) w) ≡ true
   apply_reverses_only ds taken m es no_items at w h k own = own
   apply_reverses_only ds taken m es (more_items i no_items) at w h k own =
-      item_reverses_only ds i _ w (left_true (item_reverses (forget_item i)) true h) k.1 (first_at ds m es (more_items i no_items) (fitting (indices_fit ds 1 es (more_items i no_items)) _ at k.0.1.1)) own
-  apply_reverses_only ds taken m es (more_items i (more_items j is)) at w h k own = absurd (two_items (length (item_list is)) (not_so _ L24 at k.0.1.0))
+      item_reverses_only ds i _ w (and_parts (item_reverses (forget_item i)) true h).0 k.1 (first_at ds m es (more_items i no_items) (fitting (indices_fit ds 1 es (more_items i no_items)) _ at k.0.1.1)) own
+  apply_reverses_only ds taken m es (more_items i (more_items j is)) at w h k own = absurd (two_items (length (item_list is)) (none_if _ L24 at k.0.1.0))
 
   item_reverses_only : (ds : List Define) (i : Item) (p : ℕ) (w : Applied) → item_reverses (forget_item i) ≡ true → HasNone (rules.items_breaches ds (more_items i no_items))
       → nat_le p 1 ≡ true → are_reversals w ≡ true → are_reversals (put_item ds p (forget_item i) w) ≡ true

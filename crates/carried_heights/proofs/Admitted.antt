@@ -16,7 +16,7 @@ use Rattle.canonical_nests.specs.TallHeight.{tall_stmt, tall_stmts, tall_top, ta
 use Rattle.canonical_nests.specs.LoopRules.BreachSets.{BreachSet, HasNone, or_else, breach_if}
 use Rattle.canonical_nests.specs.LoopRules.Programs.{stmt_directive, stmts_directive, top_directive, first_directive, nest_breaches, height_breaches, weight_breaches}
 use Rattle.canonical_nests.specs.declared.rules.LoopRule.TheVariants.{L26}
-use Rattle.carried_admitted.proofs.Tests.{neither_breaks}
+use Rattle.canonical_nests.proofs.BreachSets.{neither_breaks}
 use Rattle.carried_heights.specs.Laws.{AdmittedCarriedOutIsLow}
 use Rattle.carried_heights.proofs.Walk.{under_both, one_more, no_higher}
 

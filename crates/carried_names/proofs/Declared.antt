@@ -32,7 +32,7 @@ use Rattle.carried_out.specs.CarriedOut.{Made, made_leaf, made_reverse, transfor
 use Rattle.carried_out.specs.Reversible.{all_stay_in, is_reversal, is_reversible, are_reversible, is_nest, is_nest_in}
 use Rattle.carried_names.proofs.Fresh.{Fresh, Source, Reached, reached_more, drawn_fresh}
 use Rattle.carried_out.proofs.FromZero.{stays_from_zero, draws_none}
-use Rattle.carried_out.proofs.Tests.{left_true, right_true}
+use Rattle.std.proofs.lemmas.Bool.{and_parts}
 
 -- ---- a name more
 
@@ -326,8 +326,8 @@ module _ (start : FreshNames) where
       stmt_within u (call x es) r w f q = record { within = λ ns ms k h. h; reached = q }
       stmt_within u (if_ e a) r w f q = let b = stmts_within u a r w.1 f q in record { within = b.within; reached = b.reached }
       stmt_within u (if_else e a c) r w f q =
-          let b = stmts_within u a (left_true _ _ r) w.1 f q in
-          let d = stmts_within u c (right_true (are_reversible ds u a) _ r) w.2 (carried_all ds u a f).left b.reached in
+          let b = stmts_within u a (and_parts _ _ r).0 w.1 f q in
+          let d = stmts_within u c (and_parts (are_reversible ds u a) _ r).1 w.2 (carried_all ds u a f).left b.reached in
           record { within = λ ns ms k h. d.within (with_stmts ns (unplaced_stmts a)) _ (λ x e. stmts_keep x ns (unplaced_stmts a) (k x e)) (b.within ns ms k h); reached = d.reached }
       stmt_within u (while_ e a) r w f q = let b = stmts_within u a r w.1 f q in record { within = b.within; reached = b.reached }
       stmt_within u (do_ a e) r w f q = let b = stmts_within u a r w.0 f q in record { within = b.within; reached = b.reached }
@@ -341,14 +341,14 @@ module _ (start : FreshNames) where
       stmt_within u (block a) r w f q = let b = stmts_within u a r w f q in record { within = b.within; reached = b.reached }
       stmt_within u (omp p a) r w f q =
           let S = λ (ns : List Name). with_stmts ns (unplaced_stmts a) in
-          let m = planned_within (SeenAmong u) S (plan_of ds p) (nest ds u a f) (nest_within u a (right_true (is_reversal (plan_of ds p)) _ r) w.1 f q) in
+          let m = planned_within (SeenAmong u) S (plan_of ds p) (nest ds u a f) (nest_within u a (and_parts (is_reversal (plan_of ds p)) _ r).1 w.1 f q) in
           record { within = emitted_within (SeenAmong u) S (planned (plan_of ds p) (nest ds u a f)) m; reached = m.gen.reached }
 
       pub stmts_within : (u : State) (a : Stmts) → are_reversible ds u a ≡ true → WellFormedStmts a → (f : FreshNames) → Reached start f → StmtsWithin u a (carried_all ds u a f)
       stmts_within u no_stmts r w f q = record { within = λ ns ms k h. h; reached = q }
       stmts_within u (more_stmts a as') r w f q =
-          let b = stmt_within u a (left_true _ _ r) w.0 f q in
-          let c = stmts_within (scope_after a u) as' (right_true (is_reversible ds u a) _ r) w.1 (carried ds u a f).left b.reached in
+          let b = stmt_within u a (and_parts _ _ r).0 w.0 f q in
+          let c = stmts_within (scope_after a u) as' (and_parts (is_reversible ds u a) _ r).1 w.1 (carried ds u a f).left b.reached in
           record { within = λ ns ms k h. c.within (with_stmt ns (unplaced_stmt a)) _ (after_seen u a ns k) (b.within ns ms k h); reached = c.reached }
 
       nest_within : (u : State) (a : Stmts) → is_nest ds u a ≡ true → WellFormedStmts a → (f : FreshNames) → Reached start f → MadeWithin (SeenAmong u) (λ ns. with_stmts ns (unplaced_stmts a)) (nest ds u a f)
@@ -359,9 +359,9 @@ module _ (start : FreshNames) where
       nest_in_within : (u : State) (a : Stmt) → is_nest_in ds u a ≡ true → WellFormedStmt a → (f : FreshNames) → Reached start f → MadeWithin (SeenAmong u) (λ ns. with_stmt ns (unplaced_stmt a)) (nest_in ds u a f)
       nest_in_within u (for_ (head i e next) a) r w f q =
           let below = scope_below u (loop_at ds u (head i e next)) in
-          let rest = right_true (is_some (loop_at ds u (head i e next))) _ r in
-          loop_within u i e next a (carried_all ds below a f) w.0.0 w.0.3 (stmts_within below a (right_true (all_stay_in a) _ rest) w.1 f q) (left_true _ _ r)
+          let rest = (and_parts (is_some (loop_at ds u (head i e next))) _ r).1 in
+          loop_within u i e next a (carried_all ds below a f) w.0.0 w.0.3 (stmts_within below a (and_parts (all_stay_in a) _ rest).1 w.1 f q) (and_parts _ _ r).0
       nest_in_within u (block a) r w f q = nest_within u a r w f q
       nest_in_within u (omp p a) r w f q =
-          planned_within (SeenAmong u) (λ ns. with_stmts ns (unplaced_stmts a)) (plan_of ds p) (nest ds u a f) (nest_within u a (right_true (is_reversal (plan_of ds p)) _ r) w.1 f q)
+          planned_within (SeenAmong u) (λ ns. with_stmts ns (unplaced_stmts a)) (plan_of ds p) (nest ds u a f) (nest_within u a (and_parts (is_reversal (plan_of ds p)) _ r).1 w.1 f q)
       nest_in_within u a r w f q = absurd (both_ways false refl r)

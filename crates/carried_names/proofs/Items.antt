@@ -41,7 +41,7 @@ use Rattle.carried_names.proofs.Fresh.{Source, Reached, reached_start}
 use Rattle.carried_names.proofs.Scopes.{Clean, clean_inner, alike_self, fresh_apart}
 use Rattle.carried_names.proofs.SourceNames.{ParamsDeclare, ItemsDeclare, declares_source}
 use Rattle.carried_names.proofs.Walk.{stmts_kept}
-use Rattle.carried_out.proofs.Tests.{left_true, right_true}
+use Rattle.std.proofs.lemmas.Bool.{and_parts}
 use Rattle.carried_names.proofs.Declared.{Within, within_same, within_params, SeenAmong, seen_params, stmts_within, own_in}
 
 params_seen : (ps : List b.Param) (ns : List Name) (x : Name) → is_among x ns ≡ true → is_among x (names.with_params ns (map unplaced_param ps)) ≡ true
@@ -115,7 +115,7 @@ module _ (start : FreshNames) (digits : AreDigits start.digits) where
       let here = types.with_params ps u in
       let qs = map unplaced_param ps in
       let z = scopes.with_params (inner s) qs in
-      let reversible = left_true _ _ r in
+      let reversible = (and_parts _ _ r).0 in
       let body = stmts_kept start digits true ds here a reversible w.0.2 o.0 d.0.2 f q false z z (alike_self start z (clean_params ps (inner s) d.0.1 (clean_inner start s c))) h.0.1.1 in
       let declared = stmts_within start ds here a reversible w.0.2 f q in
       let m = carried_all ds here a f in
@@ -127,16 +127,16 @@ module _ (start : FreshNames) (digits : AreDigits start.digits) where
       let new = λ (depth : ℕ). Function (length qs) (min (1 + depth) 16) in
       let depth = deepest_calls z (unplaced_stmts a) in
       let within = within_same start x _ _ (declared.within in_ns in_ms (seen_params start ps u ns seen) (within_params start qs ns ms k)) in
-      let rest = items_kept is ds u (right_true (are_reversible ds here a) _ r) w.1 o.1 d.1 m.left body.reached (declare x (new depth) s) after_ns after_ms n (clean_declared s x (new depth) d.0.0 c) within
+      let rest = items_kept is ds u (and_parts (are_reversible ds here a) _ r).1 w.1 o.1 d.1 m.left body.reached (declare x (new depth) s) after_ns after_ms n (clean_declared s x (new depth) d.0.0 c) within
       (λ y j. stays_in y x _ (stmts_keep y in_ns (unplaced_stmts a) (params_seen ps ns y (seen y j)))) h.1 in
       ((h.0.0, (h.0.1.0, body.fine.none)), subst (λ g. HasNone (breaches_from (known (declare x (new g) s) after_ms n) (unplaced js))) (sym body.fine.depth) rest)
   items_kept (main a ∷ is) ds u r w o d f q s ns ms n c k seen h =
-      let reversible = left_true _ _ r in
+      let reversible = (and_parts _ _ r).0 in
       let body = stmts_kept start digits false ds u a reversible w.0 o.0 d.0 f q false (inner s) (inner s) (alike_self start (inner s) (clean_inner start s c)) h.0 in
       let declared = stmts_within start ds u a reversible w.0 f q in
       let m = carried_all ds u a f in (
         body.fine.none,
-        items_kept is ds u (right_true (are_reversible ds u a) _ r) w.1 o.1 d.1 m.left body.reached s (names.with_stmts ns (unplaced_stmts a)) (names.with_stmts ms (unplaced_stmts m.tree)) n c
+        items_kept is ds u (and_parts (are_reversible ds u a) _ r).1 w.1 o.1 d.1 m.left body.reached s (names.with_stmts ns (unplaced_stmts a)) (names.with_stmts ms (unplaced_stmts m.tree)) n c
             (declared.within ns ms seen k) (λ y j. stmts_keep y ns (unplaced_stmts a) (seen y j)) h.1,
       )
 

@@ -31,8 +31,8 @@ use Rattle.carried_out.specs.Reversible.{all_stay_in, is_reversal, is_reversible
 use Rattle.carried_names.specs.BoundsApart.{HasBoundsApart, HaveBoundsApart, LeadsToBoundsApart, IsWithBoundsApart, ItemsHaveBoundsApart}
 use Rattle.carried_names.specs.Laws.{AdmittedHaveBoundsApart, AdmittedCarriedOutBreaksNone}
 use Rattle.carried_out.proofs.LoopsAsked.{asks_one}
-use Rattle.carried_out.proofs.Tests.{left_true, right_true}
-use Rattle.carried_admitted.proofs.Tests.{neither_breaks}
+use Rattle.std.proofs.lemmas.Bool.{and_parts}
+use Rattle.canonical_nests.proofs.BreachSets.{neither_breaks}
 use Rattle.carried_names.proofs.BoundReads.{bounds_free}
 use Rattle.carried_names.proofs.Items as items
 
@@ -51,24 +51,24 @@ module _ (ds : List Define) (fs : List FunctionAccess) where
     own_stmt u s (empty p) r h = tt
     own_stmt u s (call x at es p) r h = tt
     own_stmt u s (if_ e a p) r h = own_stmts u s a r h
-    own_stmt u s (if_else e a b p) r h = (own_stmts u s a (left_true _ _ r) h.0, own_stmts u s b (right_true (are_reversible ds u (forget_stmts a)) _ r) h.1)
+    own_stmt u s (if_else e a b p) r h = (own_stmts u s a (and_parts _ _ r).0 h.0, own_stmts u s b (and_parts (are_reversible ds u (forget_stmts a)) _ r).1 h.1)
     own_stmt u s (while_ e a p) r h = own_stmts u s a r h
     own_stmt u s (do_ a e p) r h = own_stmts u s a r h
     own_stmt u s (for_ g a p) r h = own_stmts (in_head (forget_head g) u) (scope_in (init_of g) s) a r h
     own_stmt u s (block a p) r h = own_stmts u s a r h
     own_stmt u s (omp d a p) r h =
-        let one = asks_one (plan_of ds (forget_directive d)) 0 (omega arith) (left_true (is_reversal (plan_of ds (forget_directive d))) _ r) in
+        let one = asks_one (plan_of ds (forget_directive d)) 0 (omega arith) (and_parts (is_reversal (plan_of ds (forget_directive d))) _ r).0 in
         let k : Changes = record { assigned = assigned_in [] a; called = calls_in a } in
         let tier1 = neither_breaks (clause_breaches ds d a) _ h.0 in
         let tier2 = neither_breaks (structure.construct_breaches ds d a) _ tier1.1 in
         let tier3 = neither_breaks (heads.construct_breaches ds fs s d a) (counts.construct_breaches ds s d a) tier2.1 in
-        own_nest k u s s [] a (right_true (is_reversal (plan_of ds (forget_directive d))) _ r)
+        own_nest k u s s [] a (and_parts (is_reversal (plan_of ds (forget_directive d))) _ r).1
         (subst (λ m. HasNone (heads.stmts_breaches ds fs k s [] m a)) one tier3.0) (subst (λ m. HasNone (stmts_breaches ds fs s m a)) one h.1)
 
     own_stmts : (u s : State) (a : Stmts) → are_reversible ds u (forget_stmts a) ≡ true → HasNone (stmts_breaches ds fs s 0 a) → HaveBoundsApart ds (forget_stmts a)
     own_stmts u s no_stmts r h = tt
     own_stmts u s (more_stmts a as') r h =
-        (own_stmt u s a (left_true _ _ r) h.0, own_stmts (scope_after (forget_stmt a) u) (scope_after (forget_stmt a) s) as' (right_true (is_reversible ds u (forget_stmt a)) _ r) h.1)
+        (own_stmt u s a (and_parts _ _ r).0 h.0, own_stmts (scope_after (forget_stmt a) u) (scope_after (forget_stmt a) s) as' (and_parts (is_reversible ds u (forget_stmt a)) _ r).1 h.1)
 
     own_nest : (k : Changes) (u s v : State) (round : List Name) (a : Stmts) → is_nest ds u (forget_stmts a) ≡ true → HasNone (heads.stmts_breaches ds fs k s round 1 a) → HasNone (stmts_breaches ds fs v 1 a) → LeadsToBoundsApart ds (forget_stmts a)
     own_nest k u s v round no_stmts r h g = tt
@@ -78,14 +78,14 @@ module _ (ds : List Define) (fs : List FunctionAccess) where
     own_nest_in : (k : Changes) (u s v : State) (round : List Name) (a : Stmt) → is_nest_in ds u (forget_stmt a) ≡ true → HasNone (heads.stmt_breaches ds fs k s round 1 a) → HasNone (stmt_breaches ds fs v 1 a) → IsWithBoundsApart ds (forget_stmt a)
     own_nest_in k u s v round (for_ (head i i_at e e_at next next_at) a p) r h g =
         let o = forget_head (head i i_at e e_at next next_at) in
-        let rest = right_true (is_some (loop_at ds u o)) _ r in (
+        let rest = (and_parts (is_some (loop_at ds u o)) _ r).1 in (
           bounds_free fs s k round ds i i_at e e_at next next_at a h.1.1.0,
-          own_stmts (c.scope_below u (loop_at ds u o)) (scope_below ds v (init_of (head i i_at e e_at next next_at)) (canonical ds o)) a (right_true (all_stay_in (forget_stmts a)) _ rest) g,
+          own_stmts (c.scope_below u (loop_at ds u o)) (scope_below ds v (init_of (head i i_at e e_at next next_at)) (canonical ds o)) a (and_parts (all_stay_in (forget_stmts a)) _ rest).1 g,
         )
     own_nest_in k u s v round (block a p) r h g = own_nest k u s v round a r h g
     own_nest_in k u s v round (omp d a p) r h g =
-        let one = asks_one (plan_of ds (forget_directive d)) 1 (omega arith) (left_true (is_reversal (plan_of ds (forget_directive d))) _ r) in
-        own_nest k u s v round a (right_true (is_reversal (plan_of ds (forget_directive d))) _ r)
+        let one = asks_one (plan_of ds (forget_directive d)) 1 (omega arith) (and_parts (is_reversal (plan_of ds (forget_directive d))) _ r).0 in
+        own_nest k u s v round a (and_parts (is_reversal (plan_of ds (forget_directive d))) _ r).1
         (subst (λ m. HasNone (heads.stmts_breaches ds fs k s round m a)) one h) (subst (λ m. HasNone (stmts_breaches ds fs v m a)) one g)
     own_nest_in k u s v round a r h g = absurd (both_ways false refl r)
 
@@ -98,11 +98,11 @@ own_items ds fs u s (extern_ port at ∷ is) r h = (tt, own_items ds fs u s is r
 own_items ds fs u s (global t x at dims e ∷ is) r h =
     (tt, own_items ds fs (scopes.scope_with u (forget_top (global t x at dims e))) (weight.scope_with s (forget_top (global t x at dims e))) is r h.1)
 own_items ds fs u s (function x at ps a span ∷ is) r h = (
-  own_stmts ds fs (with_params (map forget_param ps) u) (with_frame (params_frame (map forget_param ps)) s) a (left_true _ _ r) h.0,
-  own_items ds (accesses_with ds fs (forget_top (function x at ps a span))) u s is (right_true (are_reversible ds (with_params (map forget_param ps) u) (forget_stmts a)) _ r) h.1,
+  own_stmts ds fs (with_params (map forget_param ps) u) (with_frame (params_frame (map forget_param ps)) s) a (and_parts _ _ r).0 h.0,
+  own_items ds (accesses_with ds fs (forget_top (function x at ps a span))) u s is (and_parts (are_reversible ds (with_params (map forget_param ps) u) (forget_stmts a)) _ r).1 h.1,
 )
 own_items ds fs u s (main a span ∷ is) r h =
-    (own_stmts ds fs u s a (left_true _ _ r) h.0, own_items ds (accesses_with ds fs (forget_top (main a span))) u s is (right_true (are_reversible ds u (forget_stmts a)) _ r) h.1)
+    (own_stmts ds fs u s a (and_parts _ _ r).0 h.0, own_items ds (accesses_with ds fs (forget_top (main a span))) u s is (and_parts (are_reversible ds u (forget_stmts a)) _ r).1 h.1)
 
 pub bounds_apart : AdmittedHaveBoundsApart
 bounds_apart p h r = own_items [] [] nowhere nowhere p r h

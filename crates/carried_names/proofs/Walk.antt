@@ -25,7 +25,7 @@ use Rattle.loop_normal.specs.DrawnNames.{FreshNames, AreDigits}
 use Rattle.loop_normal.specs.Laws.{source_loop}
 use Rattle.carried_out.specs.CarriedOut.{Made, made_leaf, planned, variable_type, with_type, where_typed, loop_at, scope_below, in_head, carried, carried_all, nest, nest_in}
 use Rattle.carried_out.specs.Reversible.{all_stay_in, is_reversal, is_reversible, are_reversible, is_nest, is_nest_in}
-use Rattle.carried_out.proofs.Tests.{left_true, right_true}
+use Rattle.std.proofs.lemmas.Bool.{and_parts}
 use Rattle.carried_names.specs.BoundsApart.{ApartIfDeclared, BoundsApart, HasBoundsApart, HaveBoundsApart, LeadsToBoundsApart, IsWithBoundsApart}
 use Rattle.carried_names.proofs.Fresh.{Source, Reached}
 use Rattle.carried_names.proofs.Declares.{Declares, DeclareAll, DeclaresIf}
@@ -170,8 +170,8 @@ module _ (start : FreshNames) (digits : AreDigits start.digits) (inside : Bool) 
           let b = stmts_kept u a r w.1 o d f q il (inner s) (inner t) (alike_inner start s t k) h.1 in
           record { kept = record { none = (expr_kept start s t k.under k.clean e h.0, b.fine.none); depth = b.fine.depth; after = k }; reached = b.reached }
       stmt_kept u (if_else e a c) r w o d f q il s t k h =
-          let b = stmts_kept u a (left_true _ _ r) w.1 o.0 d.0 f q il (inner s) (inner t) (alike_inner start s t k) h.1.0 in
-          let g = stmts_kept u c (right_true (are_reversible ds u a) _ r) w.2 o.1 d.1 (carried_all ds u a f).left b.reached il (inner s) (inner t) (alike_inner start s t k) h.1.1 in
+          let b = stmts_kept u a (and_parts _ _ r).0 w.1 o.0 d.0 f q il (inner s) (inner t) (alike_inner start s t k) h.1.0 in
+          let g = stmts_kept u c (and_parts (are_reversible ds u a) _ r).1 w.2 o.1 d.1 (carried_all ds u a f).left b.reached il (inner s) (inner t) (alike_inner start s t k) h.1.1 in
           record { kept = record { none = (expr_kept start s t k.under k.clean e h.0, (b.fine.none, g.fine.none)); depth = λ j. max (b.fine.depth j) (g.fine.depth j); after = k }; reached = g.reached }
       stmt_kept u (while_ e a) r w o d f q il s t k h =
           let b = stmts_kept u a r w.1 o d f q true (inner s) (inner t) (alike_inner start s t k) h.1 in
@@ -194,7 +194,7 @@ module _ (start : FreshNames) (digits : AreDigits start.digits) (inside : Bool) 
       stmt_kept u empty r w o d f q il s t k h = record { kept = record { none = tt; depth = refl; after = k }; reached = q }
       stmt_kept u (omp p a) r w o d f q il s t k h =
           let n = deepest_calls (inner s) (unplaced_stmts a) in
-          let inner_nest = nest_kept u a (right_true (is_reversal (plan_of ds p)) _ r) w.1 o d f q il (inner s) t (inner_under start s t k.under) (clean_inner start s k.clean) h.1 in
+          let inner_nest = nest_kept u a (and_parts (is_reversal (plan_of ds p)) _ r).1 w.1 o d f q il (inner s) t (inner_under start s t k.under) (clean_inner start s k.clean) h.1 in
           let m = planned_fine start digits inside t n (plan_of ds p) (nest ds u a f) inner_nest in
           let b = emitted_fine start digits inside t n (planned (plan_of ds p) (nest ds u a f)) m il in
           record { kept = record { none = b.none; depth = b.depth; after = k }; reached = m.gen.reached }
@@ -206,9 +206,9 @@ module _ (start : FreshNames) (digits : AreDigits start.digits) (inside : Bool) 
           HasNone (stmts_breaches inside il s (unplaced_stmts a)) → StmtsKept il s t a (carried_all ds u a f)
       stmts_kept u no_stmts r w o d f q il s t k h = record { fine = record { none = tt; depth = refl }; reached = q }
       stmts_kept u (more_stmts a as') r w o d f q il s t k h =
-          let b = stmt_kept u a (left_true _ _ r) w.0 o.0 d.0 f q il s t k h.0 in
+          let b = stmt_kept u a (and_parts _ _ r).0 w.0 o.0 d.0 f q il s t k h.0 in
           let m = carried ds u a f in
-          let c = stmts_kept (scope_after a u) as' (right_true (is_reversible ds u a) _ r) w.1 o.1 d.1 m.left b.reached il (after_stmt s (unplaced_stmt a)) (after_stmt t (unplaced_stmt m.tree)) b.kept.after h.1 in
+          let c = stmts_kept (scope_after a u) as' (and_parts (is_reversible ds u a) _ r).1 w.1 o.1 d.1 m.left b.reached il (after_stmt s (unplaced_stmt a)) (after_stmt t (unplaced_stmt m.tree)) b.kept.after h.1 in
           record { fine = record { none = (b.kept.none, c.fine.none); depth = λ j. max (b.kept.depth j) (c.fine.depth j) }; reached = c.reached }
 
       nest_kept : (u : State) (a : Stmts) → is_nest ds u a ≡ true → WellFormedStmts a → LeadsToBoundsApart ds a → DeclareAll (Source start) a → (f : FreshNames) → Reached start f → (il : Bool) (s t : Scope) → Under start s t → Clean start s →
@@ -222,12 +222,12 @@ module _ (start : FreshNames) (digits : AreDigits start.digits) (inside : Bool) 
           HasNone (stmt_breaches inside il s (unplaced_stmt a)) → MadeFine start digits inside t (deepest_call s (unplaced_stmt a)) (nest_in ds u a f)
       nest_in_kept u (for_ (head i e next) a) r w o d f q il s t k c h =
           let below = scope_below u (loop_at ds u (head i e next)) in
-          let rest = right_true (is_some (loop_at ds u (head i e next))) _ r in
+          let rest = (and_parts (is_some (loop_at ds u (head i e next))) _ r).1 in
           loop_kept u il s t i e next a (carried_all ds below a f) k c w.0.0 w.0.3 h.0 d.0 o.0
-          (λ v alike. stmts_kept below a (right_true (all_stay_in a) _ rest) w.1 o.1 d.1 f q true (inner (after_head s (unplaced_head (head i e next)))) v alike h.1)
-          (left_true _ _ r)
+          (λ v alike. stmts_kept below a (and_parts (all_stay_in a) _ rest).1 w.1 o.1 d.1 f q true (inner (after_head s (unplaced_head (head i e next)))) v alike h.1)
+          (and_parts _ _ r).0
       nest_in_kept u (block a) r w o d f q il s t k c h = nest_kept u a r w o d f q il (inner s) t (inner_under start s t k) (clean_inner start s c) h
       nest_in_kept u (omp p a) r w o d f q il s t k c h =
           planned_fine start digits inside t (deepest_calls (inner s) (unplaced_stmts a)) (plan_of ds p) (nest ds u a f)
-          (nest_kept u a (right_true (is_reversal (plan_of ds p)) _ r) w.1 o d f q il (inner s) t (inner_under start s t k) (clean_inner start s c) h.1)
+          (nest_kept u a (and_parts (is_reversal (plan_of ds p)) _ r).1 w.1 o d f q il (inner s) t (inner_under start s t k) (clean_inner start s c) h.1)
       nest_in_kept u a r w o d f q il s t k c h = absurd (both_ways false refl r)

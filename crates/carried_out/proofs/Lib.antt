@@ -1,4 +1,3 @@
-pub mod Tests
 pub mod SpentNames
 pub mod KnownNames
 pub mod FromZero

@@ -5,7 +5,7 @@ use Rattle.std.proofs.lemmas.Bool.{both_ways, leb-true, le-leb}
 use Rattle.c_semantics.specs.Loops.Transformations.{tile, interchange, reverse_, split, fuse, unroll_full, unroll_partial, Plan, plan, Applied, none_applied, applied_at}
 use Rattle.c_semantics.specs.Loops.Need.{nested_depths, part_depths, below_depths, depths, applied_depths, if_some, serves, each_at_least, least_from, reach, loops_asked}
 use Rattle.carried_out.specs.Reversible.{is_reversal, are_reversals}
-use Rattle.carried_out.proofs.Tests.{left_true, right_true}
+use Rattle.std.proofs.lemmas.Bool.{and_parts}
 
 -- an item stands on the outermost loop
 pub at_first : (p : ℕ) → nat_le p 1 ≡ true → p - 1 ≡ 0
@@ -25,12 +25,12 @@ mutual
   items_depth : (w : Applied) → are_reversals w ≡ true → applied_depths reverse_ w (1 ∷ []) ≡ Some (1 ∷ [])
   items_depth none_applied h = refl
   items_depth (applied_at p d w) h =
-      let none = at_first p (left_true (nat_le p 1) _ h) in
-      let rest = right_true (nat_le p 1) _ h in
-      let own = one_depth d (left_true (is_reversal d) _ rest) in
+      let none = at_first p (and_parts (nat_le p 1) _ h).0 in
+      let rest = (and_parts (nat_le p 1) _ h).1 in
+      let own = one_depth d (and_parts (is_reversal d) _ rest).0 in
       ap (λ k. if_some (part_depths 0 (below_depths k (depths d)) (1 ∷ [])) (applied_depths reverse_ w)) none
       ∙ ap (λ o. if_some (if_some (if_some o (λ bs. Some (nested_depths 0 bs))) (λ bs. Some (bs ++ []))) (applied_depths reverse_ w)) own
-      ∙ items_depth w (right_true (is_reversal d) _ rest)
+      ∙ items_depth w (and_parts (is_reversal d) _ rest).1
 
 least_one : (p : Plan) (d n m : ℕ) → n ≡ suc m → serves p d 1 ≡ true → least_from p d 1 n ≡ Some 1
 least_one p d n m e h = ap (λ k. least_from p d 1 k) e ∙ ap (λ b. if b then Some 1 else least_from p d 2 m) h

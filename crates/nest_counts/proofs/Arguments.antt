@@ -18,7 +18,7 @@ use Rattle.nest_counts.specs.Plans.{AllPositive, IsOrder}
 use Rattle.nest_counts.specs.Found.{ArgumentFits, ArgumentsFit, ItemsFit, IsNoFuse}
 use Rattle.nest_counts.specs.Laws.{ArgumentsOfRulesFit}
 use Rattle.nest_counts.proofs.Orders.{permutations_are_orders}
-use Rattle.nest_counts.proofs.Tests.{none_if, none_unless}
+use Rattle.canonical_nests.proofs.BreachSets.{none_if, none_unless}
 
 -- ---- numbers
 

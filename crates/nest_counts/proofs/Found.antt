@@ -22,7 +22,7 @@ use Rattle.nest_counts.proofs.TilePlaces.{length_grids, length_tiles}
 use Rattle.nest_counts.proofs.InterchangePart.{length_order}
 use Rattle.nest_counts.proofs.SplitParts.{length_counts}
 use Rattle.nest_counts.proofs.Tile.{get_drop}
-use Rattle.nest_counts.proofs.Tests.{none_if}
+use Rattle.canonical_nests.proofs.BreachSets.{none_if}
 
 -- ---- lengths of parts
 

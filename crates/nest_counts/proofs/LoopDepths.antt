@@ -16,7 +16,8 @@ use Rattle.canonical_nests.specs.LoopRules.Structure.{is_loop, stmt_list, unwrap
 use Rattle.canonical_nests.specs.declared.rules.LoopRule.TheVariants.{L1}
 use Rattle.canonical_nests.proofs.ForgottenPlans.{plan_is}
 use Rattle.nest_counts.specs.Laws.{LoopsGiveDepths}
-use Rattle.nest_counts.proofs.Structured.{neither, plan_some, sequence_some}
+use Rattle.canonical_nests.proofs.BreachSets.{neither_breaks}
+use Rattle.nest_counts.proofs.Structured.{plan_some, sequence_some}
 
 -- ---- one loop
 
@@ -90,7 +91,7 @@ module _ (ds : List Define) where
   loops_tested : (q : PlacedPlan) (at : ℕ) (cs : Clauses) (ss : List Stmt) → HasNone (loops_breaches ds q at cs ss)
       → HasNone (member_breaches ss) × HasNone (sequence_breaches q (range_place at cs) (parts_of_all ds ss))
   loops_tested q at cs [] h = absurd h
-  loops_tested q at cs (a ∷ ss) h = neither (member_breaches (a ∷ ss)) (sequence_breaches q (range_place at cs) (parts_of_all ds (a ∷ ss))) h
+  loops_tested q at cs (a ∷ ss) h = neither_breaks (member_breaches (a ∷ ss)) (sequence_breaches q (range_place at cs) (parts_of_all ds (a ∷ ss))) h
 
   fuse_asks_one : (r : Option (ℕ × ℕ)) (w : Applied) (m : ℕ) → loops_asked (plan (fuse r) w) m ≡ 1
   fuse_asks_one r w m = by (serves (plan (fuse r) w) m 1) 1
@@ -115,14 +116,14 @@ module _ (ds : List Define) where
     gives_some m (for_ h a s) none = λ e. (suc (body_depth (single_depths ds (forget_stmts a))) ∷ [], refl)
     gives_some m (omp (directive Fuse cs at) a s) none = λ e.
         let d : Directive = directive Fuse cs at in
-        let q = neither (stmts_breaches ds (loops_asked (plan_of ds (forget_directive d)) (suc m)) a) (body_breaches ds d a) none in
+        let q = neither_breaks (stmts_breaches ds (loops_asked (plan_of ds (forget_directive d)) (suc m)) a) (body_breaches ds d a) none in
         let one : loops_asked (plan_of ds (forget_directive d)) (suc m) ≡ 1 = fuse_asks_one (range_in ds (forget_clauses cs)) (clauses_items ds (length (sizes_in (forget_clauses cs))) (forget_clauses cs) none_applied) (suc m) in
         all_some d (range_in ds (forget_clauses cs)) at.start (placed.clauses_items ds (length (sizes_in (forget_clauses cs))) cs placed.none_applied) cs a refl (unwrapped_give 0 a (subst (λ n. HasNone (stmts_breaches ds n a)) one q.0)) q.1
-    gives_some m (omp (directive Tile cs at) a s) none = λ e. let d : Directive = directive Tile cs at in one_some d at.start a (neither (stmts_breaches ds (loops_asked (plan_of ds (forget_directive d)) (suc m)) a) (body_breaches ds d a) none).1
-    gives_some m (omp (directive Unroll cs at) a s) none = λ e. let d : Directive = directive Unroll cs at in one_some d at.start a (neither (stmts_breaches ds (loops_asked (plan_of ds (forget_directive d)) (suc m)) a) (body_breaches ds d a) none).1
-    gives_some m (omp (directive Interchange cs at) a s) none = λ e. let d : Directive = directive Interchange cs at in one_some d at.start a (neither (stmts_breaches ds (loops_asked (plan_of ds (forget_directive d)) (suc m)) a) (body_breaches ds d a) none).1
-    gives_some m (omp (directive Reverse cs at) a s) none = λ e. let d : Directive = directive Reverse cs at in one_some d at.start a (neither (stmts_breaches ds (loops_asked (plan_of ds (forget_directive d)) (suc m)) a) (body_breaches ds d a) none).1
-    gives_some m (omp (directive Split cs at) a s) none = λ e. let d : Directive = directive Split cs at in one_some d at.start a (neither (stmts_breaches ds (loops_asked (plan_of ds (forget_directive d)) (suc m)) a) (body_breaches ds d a) none).1
+    gives_some m (omp (directive Tile cs at) a s) none = λ e. let d : Directive = directive Tile cs at in one_some d at.start a (neither_breaks (stmts_breaches ds (loops_asked (plan_of ds (forget_directive d)) (suc m)) a) (body_breaches ds d a) none).1
+    gives_some m (omp (directive Unroll cs at) a s) none = λ e. let d : Directive = directive Unroll cs at in one_some d at.start a (neither_breaks (stmts_breaches ds (loops_asked (plan_of ds (forget_directive d)) (suc m)) a) (body_breaches ds d a) none).1
+    gives_some m (omp (directive Interchange cs at) a s) none = λ e. let d : Directive = directive Interchange cs at in one_some d at.start a (neither_breaks (stmts_breaches ds (loops_asked (plan_of ds (forget_directive d)) (suc m)) a) (body_breaches ds d a) none).1
+    gives_some m (omp (directive Reverse cs at) a s) none = λ e. let d : Directive = directive Reverse cs at in one_some d at.start a (neither_breaks (stmts_breaches ds (loops_asked (plan_of ds (forget_directive d)) (suc m)) a) (body_breaches ds d a) none).1
+    gives_some m (omp (directive Split cs at) a s) none = λ e. let d : Directive = directive Split cs at in one_some d at.start a (neither_breaks (stmts_breaches ds (loops_asked (plan_of ds (forget_directive d)) (suc m)) a) (body_breaches ds d a) none).1
     gives_some m a none = λ e. absurd (cc)
 
     unwrapped_give : (m : ℕ) (a : Stmts) → HasNone (stmts_breaches ds (suc m) a) → EachGives (unwrapped a)
