@@ -2,7 +2,7 @@
 -- block that stands for it.
 use Rattle.std.proofs.Common.{◌≡◌, refl, sym, ap, ◌∙◌, subst, ℕ, zero, suc, List, Option, Some, None, true, false}
 use Rattle.std.specs.Prelude.{is_some}
-use Rattle.std.proofs.lemmas.Bool.{both_ways}
+use Rattle.std.proofs.lemmas.Bool.{both_ways, and_parts}
 use Rattle.c_tree.specs.Bare.{Name, Expr, read, Directive, Stmt, decl, set, step, print, input, if_, if_else, while_, do_, for_, block, break_, continue_, empty, omp, call, Stmts, no_stmts, more_stmts, Head, head, MaybeStmt, no_stmt, a_stmt}
 use Rattle.c_tree.specs.declared.tree.Ty.{Ty}
 use Rattle.c_tree.specs.WellFormed.{WellFormedStmt, WellFormedStmts, MayBegin, MayEnd}
@@ -25,7 +25,6 @@ use Rattle.apply_rewrite.specs.Rewritten.{IsSimple, Rewritten, same, in_if, in_i
 use Rattle.apply_rewrite.specs.Rewritten as rewritten
 use Rattle.carried_out.specs.CarriedOut.{Made, made_leaf, made_block, planned, variable_type, with_type, where_typed, loop_at, scope_below, carried, carried_all, nest, nest_in}
 use Rattle.carried_out.specs.Reversible.{stays_in, all_stay_in, is_reversal, is_reversible, are_reversible, is_nest, is_nest_in}
-use Rattle.std.proofs.lemmas.Bool.{and_parts}
 use Rattle.apply_rewrite.proofs.NamesMore.{AnyCall, names_more, uses_more, all_more, part_more, if_more}
 use Rattle.apply_rewrite.proofs.HeadNames.{Named, NamedIf, canonical_named}
 use Rattle.carried_out.proofs.SpentNames.{Spent, spent_many, are_many, draws, length_draws, all_apart, among_differs, draws_spent}

@@ -1,7 +1,7 @@
 -- The generated code of one loop under stacked reverse directives.
 use Rattle.std.proofs.Common.{◌≡◌, refl, ap, ◌∙◌, ℕ, zero, suc, List, [], ◌∷◌, Bool, true, false}
 use Rattle.std.specs.Prelude.{nat_le}
-use Rattle.std.proofs.lemmas.Bool.{both_ways}
+use Rattle.std.proofs.lemmas.Bool.{both_ways, and_parts}
 use Rattle.c_tree.specs.Bare.{Name, Expr, read, bin, Stmts, no_stmts}
 use Rattle.c_tree.specs.declared.tree.BinOp.{BinOp}
 use Rattle.c_tree.specs.declared.tree.BinOp.TheVariants.{Sub, Lt, Gt, Le, Ge, Ne}
@@ -15,7 +15,6 @@ use Rattle.apply_rewrite.specs.NoDirectives.{NoDirectives}
 use Rattle.carried_out.specs.Reversible.{is_reversal, are_reversals}
 use Rattle.apply_rewrite.specs.ReverseStacks.{times_after, times_after_items, reversed_all}
 use Rattle.carried_out.specs.CarriedOut.{made_reverse, planned, items_applied}
-use Rattle.std.proofs.lemmas.Bool.{and_parts}
 use Rattle.apply_rewrite.proofs.NamesMore.{AnyCall}
 use Rattle.carried_out.proofs.SpentNames.{draws, Each}
 

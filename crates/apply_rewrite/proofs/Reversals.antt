@@ -1,14 +1,13 @@
 -- Plans that only reverse one loop: what they make of trees and of parts.
 use Rattle.std.proofs.Common.{◌≡◌, refl, sym, ap, ◌∙◌, ℕ, zero, suc, ◌-◌, List, [], ◌∷◌, true, false, arith, append-nil}
 use Rattle.std.specs.Prelude.{nat_le}
-use Rattle.std.proofs.lemmas.Bool.{both_ways}
+use Rattle.std.proofs.lemmas.Bool.{both_ways, and_parts}
 use Rattle.c_semantics.specs.Loops.IterationTrees.{Tree}
 use Rattle.c_semantics.specs.Loops.Transformations.{tile, interchange, reverse_, split, fuse, unroll_full, unroll_partial, transform, Plan, plan, Applied, none_applied, applied_at, apply_plan, apply_items, on_position, at_part, below_loops}
 use Rattle.c_semantics.specs.Structure.Parts as shape
 use Rattle.c_semantics.specs.Structure.Parts.{Part, plan_parts, applied_parts}
 use Rattle.carried_out.specs.Reversible.{is_reversal, are_reversals}
 use Rattle.carried_out.proofs.LoopsAsked.{at_first}
-use Rattle.std.proofs.lemmas.Bool.{and_parts}
 use Rattle.apply_rewrite.specs.ReverseStacks.{times_after, times_after_items}
 
 -- ---- the trees

@@ -2,7 +2,7 @@
 -- `reverse` these don't depend on the scope.
 use Rattle.std.proofs.Common.{◌≡◌, refl, sym, ap, ◌∙◌, subst, ℕ, List, [], ◌∷◌, ◌++◌, Option, Some, None, true, false}
 use Rattle.std.specs.Prelude.{is_some, if◌then◌else◌, flat_map, nat_le}
-use Rattle.std.proofs.lemmas.Bool.{both_ways, leb-true}
+use Rattle.std.proofs.lemmas.Bool.{both_ways, leb-true, and_parts}
 use Rattle.std.proofs.lemmas.List.{append-nil}
 use Rattle.c_tree.specs.Bare.{Name, Expr, read, bin, Directive, Stmt, decl, set, step, print, input, if_, if_else, while_, do_, for_, block, break_, continue_, empty, omp, call, Stmts, no_stmts, more_stmts, MaybeStmt, head, define, extern_, global, function, main, Program}
 use Rattle.c_tree.specs.declared.tree.BinOp.TheVariants.{Sub}
@@ -26,7 +26,6 @@ use Rattle.carried_out.specs.CarriedOut.{Made, made_leaf, made_reverse, planned,
 use Rattle.carried_out.specs.Reversible.{all_stay_in, is_reversal, are_reversals, is_reversible, are_reversible, is_nest, is_nest_in, are_reversible_items, is_reversible_program}
 use Rattle.carried_out.proofs.FromZero.{stays_from_zero}
 use Rattle.carried_out.proofs.LoopsAsked.{asks_one}
-use Rattle.std.proofs.lemmas.Bool.{and_parts}
 use Rattle.apply_rewrite.proofs.Reversals.{part_kept}
 
 module _ (ds : List Define) where

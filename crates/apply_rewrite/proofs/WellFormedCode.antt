@@ -2,7 +2,7 @@
 use Rattle.std.proofs.Common.{◌≡◌, refl, sym, ap, ◌∙◌, subst, ℕ, zero, suc, ◌+◌, ◌≤◌, ◌<◌, List, [], ◌∷◌, length, reverse, Option, Some, None, Bool, true, false, ◌&&◌, ◌||◌, not, IsTrue, arith, lit<, lit≤, ◌^◌, ℤ, nat_abs}
 use Rattle.std.specs.Prelude.{is_some, if◌then◌else◌, nat_lt}
 use Rattle.std.specs.List.{list_all}
-use Rattle.std.proofs.lemmas.Bool.{both_ways, ltb-true, le-leb}
+use Rattle.std.proofs.lemmas.Bool.{both_ways, ltb-true, le-leb, and_parts, and_from}
 use Rattle.std.proofs.lemmas.List.{reverse-append}
 use Rattle.std.proofs.lemmas.List.Folds.{list_all-append}
 use Rattle.c_tree.specs.Bare.{Name, Expr, num, read, item, un, bin, cond, cast, no_exprs, more_exprs, target, Stmt, decl, set, step, print, input, if_, if_else, while_, do_, for_, block, break_, continue_, empty, omp, call, Stmts, no_stmts, more_stmts, MaybeStmt, no_stmt, a_stmt, head, Top, define, extern_, global, function, main, Program}
@@ -33,7 +33,6 @@ use Rattle.permute_reverse.specs.Reversed.{reversed, reversed_gen}
 use Rattle.carried_out.specs.CarriedOut.{Made, made_leaf, variable_type, with_type, where_typed, loop_at, scope_below, in_head, planned, items_applied, carried, carried_all, nest, nest_in, made_reverse, carried_top, carried_items, carried_out}
 use Rattle.carried_out.specs.Reversible.{all_stay_in, is_reversal, is_reversible, are_reversible, is_nest, is_nest_in, are_reversible_items, is_reversible_program}
 use Rattle.carried_out.proofs.FromZero.{stays_from_zero, draws_none}
-use Rattle.std.proofs.lemmas.Bool.{and_parts, and_from}
 
 -- ---- drawn names
 

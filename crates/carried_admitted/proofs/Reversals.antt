@@ -1,7 +1,7 @@
 -- A directive that breaks no clause rule, and that is `reverse` with all its items, has a plan that only reverses.
 use Rattle.std.proofs.Common.{◌≡◌, refl, sym, ap, subst, ℕ, suc, ◌+◌, ◌≤◌, List, [], ◌∷◌, map, length, Option, Some, None, Bool, true, false, arith}
 use Rattle.std.specs.Prelude.{◌&&◌, ◌||◌, not, nat_le, nat_lt, if◌then◌else◌, bytes_eq, codes}
-use Rattle.std.proofs.lemmas.Bool.{leb-true, le-leb}
+use Rattle.std.proofs.lemmas.Bool.{leb-true, le-leb, and_parts, and_from}
 use Rattle.std.proofs.lemmas.Bool.Decides.{nat_tests}
 use Rattle.c_tree.specs.Bare as bare
 use Rattle.c_tree.specs.Bare.{Name}
@@ -17,7 +17,6 @@ use Rattle.canonical_nests.specs.LoopRules.Clauses.{item_list, is_constant_from,
 use Rattle.canonical_nests.specs.declared.rules.LoopRule.TheVariants.{L24, L25}
 use Rattle.carried_out.specs.AllReverse.{is_reverse, clauses_reverse, items_reverse, item_reverses}
 use Rattle.carried_out.specs.Reversible.{is_reversal, are_reversals}
-use Rattle.std.proofs.lemmas.Bool.{and_parts, and_from}
 use Rattle.canonical_nests.proofs.BreachSets.{none_if}
 
 -- ---- the plan of a directive

@@ -1,7 +1,7 @@
 -- The names that a carried-out program declares are those of the source, and fresh ones.
 use Rattle.std.proofs.Common.{◌≡◌, refl, sym, ap, subst, ℕ, List, [], ◌∷◌, map, Option, Some, None, Bool, true, false, ◌||◌, ◌⊎◌, inl, inr, ℤ}
 use Rattle.std.specs.Prelude.{bytes_eq, is_some, if◌then◌else◌}
-use Rattle.std.proofs.lemmas.Bool.{both_ways}
+use Rattle.std.proofs.lemmas.Bool.{both_ways, and_parts}
 use Rattle.c_tree.specs.Bare as b
 use Rattle.c_tree.specs.Bare.{Name, Expr, read, bin, no_exprs, more_exprs, target, Stmt, decl, set, step, print, input, if_, if_else, while_, do_, for_, block, break_, continue_, empty, omp, call, Stmts, no_stmts, more_stmts, head, MaybeStmt, no_stmt, a_stmt}
 use Rattle.c_tree.specs.Placed.{Param}
@@ -32,7 +32,6 @@ use Rattle.carried_out.specs.CarriedOut.{Made, made_leaf, made_reverse, transfor
 use Rattle.carried_out.specs.Reversible.{all_stay_in, is_reversal, is_reversible, are_reversible, is_nest, is_nest_in}
 use Rattle.carried_names.proofs.Fresh.{Fresh, Source, Reached, reached_more, drawn_fresh}
 use Rattle.carried_out.proofs.FromZero.{stays_from_zero, draws_none}
-use Rattle.std.proofs.lemmas.Bool.{and_parts}
 
 -- ---- a name more
 

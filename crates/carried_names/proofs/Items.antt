@@ -2,7 +2,7 @@
 -- were declared inside functions.
 use Rattle.std.proofs.Common.{◌≡◌, refl, sym, ap, ◌∙◌, subst, ℕ, ◌+◌, min, List, [], ◌∷◌, length, map, Option, Some, None, Bool, true, false, lit≤}
 use Rattle.std.specs.Prelude.{bytes_eq, is_some, if◌then◌else◌}
-use Rattle.std.proofs.lemmas.Bool.{both_ways}
+use Rattle.std.proofs.lemmas.Bool.{both_ways, and_parts}
 use Rattle.c_tree.specs.Bare as b
 use Rattle.c_tree.specs.Bare.{Name, define, extern_, global, function, main, Program}
 use Rattle.c_tree.specs.WellFormed.{WellFormedTops}
@@ -41,7 +41,6 @@ use Rattle.carried_names.proofs.Fresh.{Source, Reached, reached_start}
 use Rattle.carried_names.proofs.Scopes.{Clean, clean_inner, alike_self, fresh_apart}
 use Rattle.carried_names.proofs.SourceNames.{ParamsDeclare, ItemsDeclare, declares_source}
 use Rattle.carried_names.proofs.Walk.{stmts_kept}
-use Rattle.std.proofs.lemmas.Bool.{and_parts}
 use Rattle.carried_names.proofs.Declared.{Within, within_same, within_params, SeenAmong, seen_params, stmts_within, own_in}
 
 params_seen : (ps : List b.Param) (ns : List Name) (x : Name) → is_among x ns ≡ true → is_among x (names.with_params ns (map unplaced_param ps)) ≡ true

@@ -1,7 +1,7 @@
 -- A program that breaks no loop rule, and whose directives only reverse, has bounds that don't name their loop's variable.
 use Rattle.std.proofs.Common.{◌≡◌, refl, sym, subst, List, [], ◌∷◌, map, true, false, arith}
 use Rattle.std.specs.Prelude.{is_some}
-use Rattle.std.proofs.lemmas.Bool.{both_ways}
+use Rattle.std.proofs.lemmas.Bool.{both_ways, and_parts}
 use Rattle.c_tree.specs.Bare.{Name}
 use Rattle.c_tree.specs.BareOf.{bare_program}
 use Rattle.c_tree.specs.Placed.{Stmt, decl, set, step, print, input, if_, if_else, while_, do_, for_, block, break_, continue_, empty, omp, call, Stmts, no_stmts, more_stmts, head, define, extern_, global, function, main, Program}
@@ -31,7 +31,6 @@ use Rattle.carried_out.specs.Reversible.{all_stay_in, is_reversal, is_reversible
 use Rattle.carried_names.specs.BoundsApart.{HasBoundsApart, HaveBoundsApart, LeadsToBoundsApart, IsWithBoundsApart, ItemsHaveBoundsApart}
 use Rattle.carried_names.specs.Laws.{AdmittedHaveBoundsApart, AdmittedCarriedOutBreaksNone}
 use Rattle.carried_out.proofs.LoopsAsked.{asks_one}
-use Rattle.std.proofs.lemmas.Bool.{and_parts}
 use Rattle.canonical_nests.proofs.BreachSets.{neither_breaks}
 use Rattle.carried_names.proofs.BoundReads.{bounds_free}
 use Rattle.carried_names.proofs.Items as items

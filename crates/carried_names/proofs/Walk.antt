@@ -1,7 +1,7 @@
 -- By the structure of statements: what is made of one breaks no name rule where the source breaks none.
 use Rattle.std.proofs.Common.{◌≡◌, refl, sym, ap, ◌∙◌, subst, ℕ, max, List, length, Option, Some, None, Bool, true, false, not, arith}
 use Rattle.std.specs.Prelude.{bytes_eq, is_some, if◌then◌else◌}
-use Rattle.std.proofs.lemmas.Bool.{both_ways}
+use Rattle.std.proofs.lemmas.Bool.{both_ways, and_parts}
 use Rattle.c_tree.specs.Bare.{Name, Expr, Stmt, decl, set, step, print, input, if_, if_else, while_, do_, for_, block, break_, continue_, empty, omp, call, Stmts, no_stmts, more_stmts, Head, head, MaybeStmt, no_stmt, a_stmt}
 use Rattle.c_tree.specs.Placed.{expr_list}
 use Rattle.c_tree.specs.declared.tree.Ty.{Ty}
@@ -25,7 +25,6 @@ use Rattle.loop_normal.specs.DrawnNames.{FreshNames, AreDigits}
 use Rattle.loop_normal.specs.Laws.{source_loop}
 use Rattle.carried_out.specs.CarriedOut.{Made, made_leaf, planned, variable_type, with_type, where_typed, loop_at, scope_below, in_head, carried, carried_all, nest, nest_in}
 use Rattle.carried_out.specs.Reversible.{all_stay_in, is_reversal, is_reversible, are_reversible, is_nest, is_nest_in}
-use Rattle.std.proofs.lemmas.Bool.{and_parts}
 use Rattle.carried_names.specs.BoundsApart.{ApartIfDeclared, BoundsApart, HasBoundsApart, HaveBoundsApart, LeadsToBoundsApart, IsWithBoundsApart}
 use Rattle.carried_names.proofs.Fresh.{Source, Reached}
 use Rattle.carried_names.proofs.Declares.{Declares, DeclareAll, DeclaresIf}

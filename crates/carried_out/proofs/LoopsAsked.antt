@@ -1,11 +1,10 @@
 -- A plan that only reverses asks for one loop.
 use Rattle.std.proofs.Common.{◌≡◌, refl, ap, ◌∙◌, ℕ, suc, ◌+◌, ◌-◌, ◌≤◌, [], ◌∷◌, ◌++◌, Some, true, false, ◌&&◌, arith}
 use Rattle.std.specs.Prelude.{nat_le, if◌then◌else◌, unwrap_or}
-use Rattle.std.proofs.lemmas.Bool.{both_ways, leb-true, le-leb}
+use Rattle.std.proofs.lemmas.Bool.{both_ways, leb-true, le-leb, and_parts}
 use Rattle.c_semantics.specs.Loops.Transformations.{tile, interchange, reverse_, split, fuse, unroll_full, unroll_partial, Plan, plan, Applied, none_applied, applied_at}
 use Rattle.c_semantics.specs.Loops.Need.{nested_depths, part_depths, below_depths, depths, applied_depths, if_some, serves, each_at_least, least_from, reach, loops_asked}
 use Rattle.carried_out.specs.Reversible.{is_reversal, are_reversals}
-use Rattle.std.proofs.lemmas.Bool.{and_parts}
 
 -- an item stands on the outermost loop
 pub at_first : (p : ℕ) → nat_le p 1 ≡ true → p - 1 ≡ 0

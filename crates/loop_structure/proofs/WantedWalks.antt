@@ -41,7 +41,10 @@ module _ (ds : List Define) where
   some_wanted m (p.empty s) = refl
   some_wanted m (p.call x at es s) = refl
 
-  are_wanted : (m : ℕ) (s : p.Stmt) → m ≢ 0 → least (stmt_breaches ds m s) ≡ wanted_least ds m s
+  pub without_loops : (m : ℕ) (s : p.Stmt) → m ≡ 0 → least (stmt_breaches ds m s) ≡ None
+  without_loops m s is = ap (λ n. least (stmt_breaches ds n s)) is
+
+  pub are_wanted : (m : ℕ) (s : p.Stmt) → m ≢ 0 → least (stmt_breaches ds m s) ≡ wanted_least ds m s
   are_wanted zero s some = absurd (some refl)
   are_wanted (suc m) s some = some_wanted m s
 
@@ -68,6 +71,8 @@ module _ (ds : List Define) where
 pub ruleset held = (directive_held)
 
 pub ruleset wanted = (lesser_none)
+
+pub ruleset statements = (without_loops, are_wanted)
 
 pub ruleset constructs = (construct_is)
 

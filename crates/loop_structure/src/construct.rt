@@ -79,6 +79,26 @@ fn stmt_breach<C: Constants>(
     }
 }
 
+/// The least breach of structure in the directives that have to give loops where a directive round a statement wants so
+/// many of it, by place and then by rule, and `None` exactly where there is none.
+#[tactic(auto, using(crate::proofs::WantedWalks::statements))]
+pub fn wanted_breach<C: Constants>(
+    alloc: Global,
+    constants: &C,
+    stmt: &Stmt,
+    wanted: u64,
+) -> Result<Option<LoopBreach>, AllocError>
+    requires held { C.are_held constants.now }
+    requires well_formed { WellFormedStmt (bare_stmt stmt.now) }
+    ensures { IfOk result (λ b. b ≡ least (structure.stmt_breaches (C.defines constants.now) wanted (placed_stmt stmt.now))) }
+{
+    if wanted == 0 {
+        return Ok(None);
+    }
+    let breach = stmt_breach(alloc, constants, stmt, wanted)?;
+    Ok(breach)
+}
+
 #[tactic(auto, using(crate::proofs::WantedWalks::wanted_walks))]
 #[cycle(stmt_breach)]
 fn stmts_breach<C: Constants>(
