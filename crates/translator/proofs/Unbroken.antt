@@ -1,6 +1,5 @@
 -- What breaks no loop rule has no least breach, and a program without a directive breaks none.
 use Rattle.std.proofs.Common.{◌≡◌, ℕ, zero, suc, Bool, true, false, List, [], ◌∷◌, Option, Some, None, refl, sym, subst, if◌then◌else◌}
-use Rattle.std.specs.Option.{option_or}
 use Rattle.c_tree.specs.Placed.{Stmt, decl, set, step, print, input, if_, if_else, while_, do_, for_, block, break_, continue_, empty, omp, call, Stmts, no_stmts, more_stmts, directive, Top, define, extern_, global, function, main, Program}
 use Rattle.c_tree.specs.Forget.{forget_top}
 use Rattle.c_semantics.specs.Meaning.State.{State, nowhere}
@@ -10,6 +9,7 @@ use Rattle.canonical_nests.specs.Weight.{scope_with}
 use Rattle.canonical_nests.specs.LoopRules.BreachSets.{BreachSet, none, one, ◌&◌, HasNone, least, or_else, has_some}
 use Rattle.canonical_nests.specs.LoopRules.Programs.{stmt_directive, stmts_directive, top_directive, first_directive, stmt_breaches, stmts_breaches, top_breaches, breaches_from, nest_breaches, height_breaches, weight_breaches, breaches}
 use Rattle.canonical_nests.specs.declared.rules.LoopBreach.{LoopBreach}
+use Rattle.translator.proofs.Plain.{both_none}
 
 least_of_none : (s : BreachSet) → HasNone s → least s ≡ None
 least_of_none none h = refl
@@ -20,10 +20,6 @@ pub unbroken_loops : (s : BreachSet) (b : LoopBreach) → HasNone s → least s 
 unbroken_loops s b h e = let n = least_of_none s h in cc
 
 -- ---- programs without a directive
-
-both_none : (p q : Option ℕ) → option_or p q ≡ None → (p ≡ None) × (q ≡ None)
-both_none None q without = (refl, without)
-both_none (Some p) q without = cc
 
 module _ (ds : List Define) (fs : List FunctionAccess) where
   mutual

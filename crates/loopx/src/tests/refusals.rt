@@ -74,8 +74,8 @@ const LINES: [(&str, &str); 15] = [
         "4:38: L9 break leaves an affected loop\n",
     ),
     (
-        "int i;\n#pragma omp reverse\nfor (i = 0; i < 4; i++) ;",
-        "4:13: NotBuilt not built yet\n",
+        "int i;\n#pragma omp reverse apply(nothing) apply(unroll)\nfor (i = 0; i < 4; i++) ;",
+        "4:42: NotBuilt not built yet\n",
     ),
     (
         "#pragma omp reverse\nfor (int i = 0; i < 4; i += 0) ;",

@@ -18,7 +18,7 @@ const TILED_PRODUCT: &str =
     "#define N 64\nvoid print(long long);\nint a[N][N];\nint b[N][N];\nint c[N][N];\nint main(void) {\nfor (int i = 0; i < N; i++)\nfor (int j = 0; j < N; j++) {\na[i][j] = i + j;\nb[i][j] = i - j;\n}\nfor (int s = 0; s < N; s += 16)\nfor (int t = 0; t < N; t += 16)\nfor (int u = 0; u < N; u += 16)\nfor (int i = s; i < s + 16; i++)\nfor (int j = t; j < t + 16; j++)\nfor (int k = u; k < u + 16; k++)\nc[i][j] += a[i][k] * b[k][j];\nprint(c[0][0]);\nprint(c[63][63]);\n}\n";
 
 /// Lines of `main`, what they print, and their turns.
-const TURNS: [(&str, &str, u64); 6] = [
+const TURNS: [(&str, &str, u64); 9] = [
     ("print(1);", "1\n", 0),
     ("for (int i = 0; i < 3; i++) ;", "", 3),
     (
@@ -36,6 +36,21 @@ const TURNS: [(&str, &str, u64); 6] = [
         "#pragma omp reverse\nfor (int i = 0; i < 3; i++) print(i);",
         "2\n1\n0\n",
         3,
+    ),
+    (
+        "#pragma omp reverse apply(reverse)\nfor (int i = 0; i < 3; i++) print(i);",
+        "0\n1\n2\n",
+        3,
+    ),
+    (
+        "int i;\n#pragma omp reverse\nfor (i = 3; i > 0; i -= 2) {\n#pragma omp reverse apply(reverse)\nfor (int j = 0; j < i; j++) print(i);\n}",
+        "1\n3\n3\n3\n",
+        6,
+    ),
+    (
+        "int i;\n#pragma omp reverse apply(nothing)\nfor (i = 4; i < 4; i++) print(i);",
+        "",
+        0,
     ),
 ];
 
