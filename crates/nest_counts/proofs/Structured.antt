@@ -2,12 +2,12 @@
 use Rattle.std.proofs.Common.{◌≡◌, refl, ap, ◌∙◌, subst, ℕ, zero, suc, ◌+◌, ◌-◌, ◌<◌, ◌≤◌, List, [], ◌∷◌, ◌++◌, length, Option, Some, None, Bool, true, false, get_or, arith}
 use Rattle.std.specs.Prelude.{◌==◌, not, nat_le, nat_lt, unwrap_or, if◌then◌else◌}
 use Rattle.std.specs.List.{list_any}
-use Rattle.std.proofs.lemmas.Bool.{ltb-false, le-leb, and_from, eq-eqb}
+use Rattle.std.proofs.lemmas.Bool.{ltb-false, le-leb, or_parts, and_from, eq-eqb}
 use Rattle.c_semantics.specs.Loops.Transformations.{Transformation, tile, interchange, reverse_, split, fuse, unroll_full, unroll_partial}
 use Rattle.c_semantics.specs.Loops.Transformations as bare
 use Rattle.c_semantics.specs.Loops.Need.{takes, transformed_depths, all_at_least, if_some, nested_depths, part_depths, below_depths, position_depths, depths, applied_depths}
 use Rattle.canonical_nests.specs.declared.rules.LoopRule.TheVariants.{L7, L19, L22}
-use Rattle.canonical_nests.specs.LoopRules.BreachSets.{BreachSet, none, one, ◌&◌, HasNone, has_some, or_else, breach_if}
+use Rattle.canonical_nests.specs.LoopRules.BreachSets.{◌&◌, HasNone, breach_if}
 use Rattle.canonical_nests.specs.LoopRules.PlacedPlans.{PlacedPlan, plan, PlacedItems, none_applied, applied_at, forget_plan, forget_items}
 use Rattle.canonical_nests.specs.LoopRules.Structure as structure
 use Rattle.canonical_nests.specs.LoopRules.Structure.{depth_breaches, depth_at, after_item, ends_within, sequence_breaches}
