@@ -2,64 +2,70 @@
 use Rattle.std.proofs.Common.{◌≡◌, ◌∙◌, sym, ap, refl, subst, ℕ, zero, suc, ◌+◌, ◌-◌, ◌<◌, ◌≤◌, Bool, true, false, List, [], ◌∷◌, ◌++◌, length, drop, reverse, set, arith, nat_eq}
 use Rattle.std.proofs.lemmas.List.{reverse-append, length-reverse, length-set, length-drop, drop-drop, drop_all}
 use Rattle.std.specs.Prelude.{bytes_eq, if◌then◌else◌, slice_index_or, Option, Some, None, ℤ}
+use Rattle.std.specs.Option.{option_map}
 use Rattle.c_tree.specs.Bare.{Name}
 use Rattle.resolved_names.specs.Numbered.{number_name}
-use Rattle.c_semantics.specs.Meaning.State.{Cell, Var, find, write, keep}
+use Rattle.c_semantics.specs.Meaning.State.{Var, find, write, keep}
 use Rattle.c_semantics.specs.Meaning.SimpleStatements.{changed}
 use Rattle.c_meaning.specs.declared.place_table.PlaceTable.{PlaceTable}
 use Rattle.c_meaning.specs.PlaceTables.{place_at}
 use Rattle.c_meaning.specs.Frames.{place_of, Hide, IsFrame}
 use Rattle.c_meaning.proofs.PlaceTables.{entry_within}
-use Rattle.c_meaning.specs.Variables.{first_at}
+use Rattle.c_meaning.specs.FileVariables.{first_of}
 use Rattle.c_meaning.proofs.Numbers.{number_eq}
-use Rattle.c_meaning.proofs.Variables.{found, written, missing, unwritten, at_last, set_last}
+use Rattle.c_meaning.proofs.Variables.{found, number_written, at_last, set_last}
 
 -- ---- the place of a name
 
-place_here : (x : Name) (vs : List Var) (i : ℕ) (b : Bool) → (place_of x vs ≡ Some i → i + first_at x vs + 1 ≡ length vs) → (if b then Some (length vs) else place_of x vs) ≡ Some i → i + (if b then 0 else suc (first_at x vs)) + 1 ≡ suc (length vs)
-place_here x vs i true rest is = let same : length vs ≡ i = cc in omega arith
-place_here x vs i false rest is = let more : i + first_at x vs + 1 ≡ length vs = rest is in omega arith
+first_here : (x : Name) (vs : List Var) (i : ℕ) (b : Bool) → (place_of x vs ≡ Some i → (i < length vs) × (first_of x vs ≡ Some (length vs - 1 - i))) → (if b then Some (length vs) else place_of x vs) ≡ Some i → (i < suc (length vs)) × ((if b then Some 0 else option_map suc (first_of x vs)) ≡ Some (suc (length vs) - 1 - i))
+first_here x vs i true rest is = let same : length vs ≡ i = cc in (omega arith, ap Some (omega arith))
+first_here x vs i false rest is =
+    let within : i < length vs = (rest is).0 in
+    let further : suc (length vs - 1 - i) ≡ suc (length vs) - 1 - i = omega arith in
+    (omega arith, ap (option_map suc) (rest is).1 ∙ ap Some further)
 
-place_is : (x : Name) (vs : List Var) (i : ℕ) → place_of x vs ≡ Some i → i + first_at x vs + 1 ≡ length vs
-place_is x [] i is = absurd (cc)
-place_is x (v ∷ vs) i is = place_here x vs i (bytes_eq x v.name) (place_is x vs i) is
+place_first : (x : Name) (vs : List Var) (i : ℕ) → place_of x vs ≡ Some i → (i < length vs) × (first_of x vs ≡ Some (length vs - 1 - i))
+place_first x [] i is = absurd (cc)
+place_first x (v ∷ vs) i is = first_here x vs i (bytes_eq x v.name) (place_first x vs i) is
 
-no_place_here : (x : Name) (vs : List Var) (b : Bool) → (place_of x vs ≡ None → first_at x vs ≡ length vs) → (if b then Some (length vs) else place_of x vs) ≡ None → (if b then 0 else suc (first_at x vs)) ≡ suc (length vs)
+no_place_here : (x : Name) (vs : List Var) (b : Bool) → (place_of x vs ≡ None → first_of x vs ≡ None) → (if b then Some (length vs) else place_of x vs) ≡ None → (if b then Some 0 else option_map suc (first_of x vs)) ≡ None
 no_place_here x vs true rest is = absurd (cc)
-no_place_here x vs false rest is = ap suc (rest is)
+no_place_here x vs false rest is = ap (option_map suc) (rest is)
 
-no_place : (x : Name) (vs : List Var) → place_of x vs ≡ None → first_at x vs ≡ length vs
+pub no_place : (x : Name) (vs : List Var) → place_of x vs ≡ None → first_of x vs ≡ None
 no_place x [] is = refl
 no_place x (v ∷ vs) is = no_place_here x vs (bytes_eq x v.name) (no_place x vs) is
 
 -- the variable there, of variables whose innermost is the last
 module _ (x : Name) (vs : List Var) (i : ℕ) (is : place_of x (reverse vs) ≡ Some i) where
-  place_last : i + first_at x (reverse vs) + 1 ≡ length vs
-  place_last = place_is x (reverse vs) i is ∙ length-reverse vs
+  -- where it stands from the innermost on
+  k : ℕ
+  k = length (reverse vs) - 1 - i
 
   pub place_within : i < length vs
-  place_within = let here : i + first_at x (reverse vs) + 1 ≡ length vs = place_last in omega arith
+  place_within = omega (arith, (place_first x (reverse vs) i is).0, length-reverse vs)
 
-  below : first_at x (reverse vs) < length (reverse vs)
-  below = let here : i + first_at x (reverse vs) + 1 ≡ length (reverse vs) = place_is x (reverse vs) i is in omega arith
+  is_first : first_of x (reverse vs) ≡ Some k
+  unfolding k
+  is_first = (place_first x (reverse vs) i is).1
+
+  from_last : i + k + 1 ≡ length vs
+  unfolding k
+  from_last = omega (arith, (place_first x (reverse vs) i is).0, length-reverse vs)
 
   module _ (v : Var) (at : v ≡ slice_index_or vs i v) where
-    at_first : v ≡ slice_index_or (reverse vs) (first_at x (reverse vs)) v
-    at_first = at_last vs i (first_at x (reverse vs)) v place_last at
+    at_first : v ≡ slice_index_or (reverse vs) k v
+    at_first = at_last vs i k v from_last at
 
     pub place_found : find x (reverse vs) ≡ Some v.cell
-    place_found = found x (reverse vs) v below at_first
+    place_found = found x (reverse vs) k is_first v at_first
 
-    pub place_written : (k : ℕ) (z : ℤ) → reverse (set vs i (record { name = v.name; cell = changed (Some v.cell) k z })) ≡ write x (changed (find x (reverse vs)) k z) (reverse vs)
-    place_written k z =
-        let c : Cell = changed (Some v.cell) k z in
-        set_last vs i (first_at x (reverse vs)) (record { name = v.name; cell = c }) place_last
-        ∙ (sym (written x c (reverse vs) v below at_first)
-        ∙ ap (λ o. write x (changed o k z) (reverse vs)) (sym place_found))
+    pub place_written : (j : ℕ) (z : ℤ) → reverse (set vs i (record { name = v.name; cell = changed (Some v.cell) j z })) ≡ write x (changed (find x (reverse vs)) j z) (reverse vs)
+    place_written j z = set_last vs i k (record { name = v.name; cell = changed (Some v.cell) j z }) from_last ∙ number_written x (reverse vs) j z k is_first v at_first
 
     pub frame_set : (w : Var) → w.name ≡ v.name → (places : List (Option ℕ)) (t : PlaceTable) → IsFrame (reverse vs) places t → IsFrame (reverse (set vs i w)) places t
     frame_set w same places t h =
-        subst (λ us. IsFrame us places t) (sym (set_last vs i (first_at x (reverse vs)) w place_last)) (frame_with (reverse vs) (first_at x (reverse vs)) v w at_first same places t h)
+        subst (λ us. IsFrame us places t) (sym (set_last vs i k w from_last)) (frame_with (reverse vs) k v w at_first same places t h)
       where
         place_set : (y : Name) (us : List Var) (k : ℕ) (u w : Var) → u ≡ slice_index_or us k u → w.name ≡ u.name → place_of y (set us k w) ≡ place_of y us
         place_set y [] k u w at same = refl
@@ -79,14 +85,6 @@ module _ (x : Name) (vs : List Var) (i : ℕ) (is : place_of x (reverse vs) ≡ 
           hidden = hide_set us k u w at same places h.hidden;
           innermost = λ n. h.innermost n ∙ sym (place_set (number_name n) us k u w at same);
         }
-
--- no variable has the name
-module _ (x : Name) (vs : List Var) (is : place_of x vs ≡ None) where
-  pub nothing_found : find x vs ≡ None
-  nothing_found = missing x vs (no_place x vs is)
-
-  pub nothing_written : (k : ℕ) (z : ℤ) → vs ≡ write x (changed (find x vs) k z) vs
-  nothing_written k z = sym (unwritten x (changed (find x vs) k z) vs (no_place x vs is))
 
 -- ---- one variable less
 

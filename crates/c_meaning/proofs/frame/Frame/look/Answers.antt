@@ -3,7 +3,8 @@ use Rattle.std.proofs.Common.{◌≡◌, ◌∙◌, sym, ap, ◌<◌, length, re
 use Rattle.c_semantics.specs.Meaning.State.{find}
 use Rattle.resolved_names.specs.Numbered.{number_name}
 use Rattle.c_meaning.specs.Frames.{place_of}
-use Rattle.c_meaning.proofs.Frames.{place_within, place_found, nothing_found}
+use Rattle.c_meaning.proofs.Frames.{place_within, place_found, no_place}
+use Rattle.c_meaning.proofs.Variables.{missing}
 use Rattle.c_meaning.proofs.frame.Frame.look.Goals as goal
 
 pub index-requires : goal.index-requires
@@ -26,4 +27,4 @@ returns-in-None c =
     let x = number_name c.args.name in
     let vs = c.self.inside.variables.items in
     let is : place_of x (reverse vs) ≡ None = sym (c.in-None.ensures ∙ c.self.invariant.innermost c.args.name) in
-    sym (nothing_found x (reverse vs) is) ∙ ap (find x) c.self.view_is
+    sym (missing x (reverse vs) (no_place x (reverse vs) is)) ∙ ap (find x) c.self.view_is

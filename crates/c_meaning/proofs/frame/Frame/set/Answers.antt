@@ -6,8 +6,8 @@ use Rattle.c_semantics.specs.Meaning.State.{Var, find, write}
 use Rattle.c_semantics.specs.Meaning.SimpleStatements.{changed}
 use Rattle.resolved_names.specs.Numbered.{number_name}
 use Rattle.c_meaning.specs.Frames.{place_of}
-use Rattle.c_meaning.proofs.Frames.{place_within, place_found, place_written, frame_set, nothing_found, nothing_written}
-use Rattle.c_meaning.proofs.Variables.{with_number}
+use Rattle.c_meaning.proofs.Frames.{place_within, place_found, place_written, frame_set, no_place}
+use Rattle.c_meaning.proofs.Variables.{missing, no_number_written, with_number}
 use Rattle.c_meaning.proofs.frame.Frame.set.Goals as goal
 
 pub index_mut-requires : goal.index_mut-requires
@@ -49,7 +49,7 @@ returns-in-None-clause-found c =
     let x = number_name c.args.name in
     let vs = c.self.inside.variables.items in
     let is : place_of x (reverse vs) ≡ None = sym (c.in-None.ensures ∙ c.self.invariant.innermost c.args.name) in
-    ap is_some (sym (nothing_found x (reverse vs) is) ∙ ap (find x) c.self.view_is)
+    ap is_some (sym (missing x (reverse vs) (no_place x (reverse vs) is)) ∙ ap (find x) c.self.view_is)
 
 pub returns-in-None-clause-changed : goal.returns-in-None-clause-changed
 returns-in-None-clause-changed c =
@@ -57,4 +57,4 @@ returns-in-None-clause-changed c =
     let vs = c.self.inside.variables.items in
     let is : place_of x (reverse vs) ≡ None = sym (c.in-None.ensures ∙ c.self.invariant.innermost c.args.name) in
     let same = λ (us : List Var). write x (changed (find x us) c.args.at c.args.number) us in
-    sym c.self.view_is ∙ (nothing_written x (reverse vs) is c.args.at c.args.number ∙ ap same c.self.view_is)
+    sym c.self.view_is ∙ (no_number_written x (reverse vs) c.args.at c.args.number (no_place x (reverse vs) is) ∙ ap same c.self.view_is)
