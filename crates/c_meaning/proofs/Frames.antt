@@ -114,7 +114,7 @@ frame_last bs cs b t is h =
     let vs : variables bs ≡ variables cs ++ b.variable ∷ [] = ap variables is ∙ map-append (λ (c : Binding). c.variable) cs (b ∷ []) in
     let ps : places bs ≡ places cs ++ b.hidden ∷ [] = ap places is ∙ map-append (λ (c : Binding). c.hidden) cs (b ∷ []) in
     subst (λ ws. IsFrame ws (b.hidden ∷ reverse (places cs)) t) (last_first (variables bs) (variables cs) b.variable vs)
-        (subst (λ ws. IsFrame (reverse (variables bs)) ws t) (last_first (places bs) (places cs) b.hidden ps) h)
+    (subst (λ ws. IsFrame (reverse (variables bs)) ws t) (last_first (places bs) (places cs) b.hidden ps) h)
 
 -- the table reaches as far as the number of the innermost variable
 module _ (vs : List Var) (ps : List (Option ℕ)) (t : PlaceTable) (v : Var) (k : ℕ) (named : number_name k ≡ v.name) where

@@ -90,7 +90,10 @@ impl Frame {
         self.innermost.make_room(name)?;
         let place = self.bindings.len();
         let hidden = self.innermost.get(name);
-        self.bindings.push(Binding { variable: Variable::new(name, cell), hidden })?;
+        self.bindings.push(Binding {
+            variable: Variable::new(name, cell),
+            hidden,
+        })?;
         self.innermost.put(name, Some(place));
         Ok(())
     }

@@ -32,7 +32,7 @@ invariant_of-self c =
     let is : place_of x (reverse vs) ≡ Some c.in-Some.place = sym (c.in-Some.ensures ∙ c.self.invariant.innermost c.args.name) in
     let now = frame_set x vs i is b.variable (variable_at bs i b c.index_mut.ensures.value) w (ap (λ (v : Var). v.name) c.set.ensures) (reverse (places bs)) m.innermost c.self.invariant in
     subst (λ (us : List Var). IsFrame (reverse us) (reverse (places (set bs i (record b { variable = w })))) m.innermost) (sym (variables_set bs i b c.index_mut.ensures.value w))
-        (subst (λ (ps : List (Option ℕ)). IsFrame (reverse (set vs i w)) (reverse ps) m.innermost) (sym (places_set bs i b c.index_mut.ensures.value w)) now)
+    (subst (λ (ps : List (Option ℕ)). IsFrame (reverse (set vs i w)) (reverse ps) m.innermost) (sym (places_set bs i b c.index_mut.ensures.value w)) now)
 
 pub returns-in-Some-clause-found : goal.returns-in-Some-clause-found
 returns-in-Some-clause-found c =
