@@ -5,7 +5,6 @@ pub mod DefineValues
 pub mod Dependences
 pub mod HeadParts
 pub mod HeldBounds
-pub mod HeldParts
 pub mod Interchanges
 pub mod ItemBreaches
 pub mod KnownCounts

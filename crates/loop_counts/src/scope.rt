@@ -1,11 +1,10 @@
 //! The variables and the defines that are visible at a place of a program, without values.
 
-ghost use Rattle.std.specs.Prelude.{◌≡◌, ◌++◌, OnOk, Some, None, map, reverse, length, ◌≤◌};
+ghost use Rattle.std.specs.Prelude.{◌≡◌, ◌++◌, OnOk, Some, None, map, reverse, length};
 ghost use Rattle.std.specs.Option.{option_map};
 ghost use Rattle.c_tree.specs.BareOf.{bare_param, bare_top};
 ghost use Rattle.c_tree.specs.WellFormed.{WellFormedTop};
 ghost use Rattle.c_semantics.specs.Meaning.State.{scalar, look, find, push, keep, with_frame};
-ghost use Rattle.c_semantics.specs.Meaning.Expressions as meaning;
 ghost use Rattle.c_semantics.specs.Meaning.FileVariables as file;
 ghost use Rattle.c_semantics.specs.Structure.Skeleton.{params_frame};
 ghost use Rattle.canonical_nests.specs.Weight as weight;

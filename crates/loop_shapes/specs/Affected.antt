@@ -2,7 +2,7 @@
 -- is broken. A directive passes on what it asks of its body; a `for` takes one of the number and passes on the rest.
 use Rattle.std.specs.Prelude.{ℕ, zero, suc, ◌-◌, List, Option, Some, None}
 use Rattle.std.specs.Option.{option_or}
-use Rattle.c_tree.specs.Placed.{Stmt, for_, block, omp, Stmts, no_stmts, more_stmts}
+use Rattle.c_tree.specs.Placed.{Directive, Stmt, for_, block, omp, Stmts, no_stmts, more_stmts}
 use Rattle.c_tree.specs.Forget.{forget_directive, forget_head}
 use Rattle.c_semantics.specs.Meaning.Expressions.{Define}
 use Rattle.c_semantics.specs.Loops.CanonicalForm.{Canonical, canonical}
@@ -20,8 +20,12 @@ module _ (ds : List Define) where
     pub first_in : ℕ → Stmt → Option ℕ
     first_in m (for_ h a s) = option_or (unless_canonical (canonical ds (forget_head h)) s.start) (first_among (m - 1) a)
     first_in m (block a s) = first_among m a
-    first_in m (omp d a s) = first_among (loops_asked (plan_of ds (forget_directive d)) m) a
+    first_in m (omp d a s) = first_taken m d a
     first_in m _ = None
+
+    -- in what a directive takes of which a directive round it wants m loops, 0 where none does
+    pub first_taken : ℕ → Directive → Stmts → Option ℕ
+    first_taken m d a = first_among (loops_asked (plan_of ds (forget_directive d)) m) a
 
     pub first_among : ℕ → Stmts → Option ℕ
     first_among zero as' = None

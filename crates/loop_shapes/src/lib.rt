@@ -6,3 +6,5 @@ pub mod constructs;
 pub mod seen;
 pub mod shape;
 pub mod shapes;
+#[cfg(test)]
+mod tests;
