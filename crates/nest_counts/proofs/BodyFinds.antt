@@ -74,5 +74,5 @@ pub all_found : (r : Option (ℕ × ℕ)) (at : ℕ) (w : PlacedItems) (q : Plan
     → HaveLoops 1 (length ks) ps → HasNone (counts.plan_breaches (plan (fuse r) at w) 0 ps) → FindsAndGives q m (length es) ps
 all_found r at w q m ks es ps is =
     subst (λ x. ArgumentsFit x → ends_within (fuse r) (length ks) ≡ true → depths x ks ≡ Some es → all_at_least m es ≡ true → (m ≤ 1) ⊎ (length es ≡ 1) → HaveLoops 1 (length ks) ps
-        → HasNone (counts.plan_breaches (plan (fuse r) at w) 0 ps) → FindsAndGives x m (length es) ps)
+    → HasNone (counts.plan_breaches (plan (fuse r) at w) 0 ps) → FindsAndGives x m (length es) ps)
     is (all_at r at w m ks es ps)

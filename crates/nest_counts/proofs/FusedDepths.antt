@@ -125,6 +125,10 @@ other_sequence (Some r) w ks ls es fit ends same deep e =
     let begun : length (take a ls) ≡ length (take a ks) = lb ∙ sym la in
     let many : length fs ≡ length (take a ks ++ (t.0 ++ drop b ks)) = omega (arith, length_round (take a ls) t.0 (drop b ls), length_round (take a ks) t.0 (drop b ks)) in
     let some : 0 < length t.0 = items_parts (fuse None) w (1 ∷ []) t.0 fit (omega arith) t.1.0 in
-    subst (λ z. ServesAlike z (depths (plan (fuse (Some r)) w) ls)) is
-    (fs, (enough_then (applied_depths (fuse (Some r)) w (transformed_depths (fuse (Some r)) ls)) (all_at_least 1 ls) fs deep over,
-    (many, (λ m h few. round_serves m (take a ks) (drop b ks) (take a ls) (drop b ls) t.0 begun left some (all_taken 1 a ls deep) (all_left 1 b ls deep) h few))))
+    subst (λ z. ServesAlike z (depths (plan (fuse (Some r)) w) ls)) is (
+      fs,
+      (
+        enough_then (applied_depths (fuse (Some r)) w (transformed_depths (fuse (Some r)) ls)) (all_at_least 1 ls) fs deep over,
+        (many, (λ m h few. round_serves m (take a ks) (drop b ks) (take a ls) (drop b ls) t.0 begun left some (all_taken 1 a ls deep) (all_left 1 b ls deep) h few)),
+      ),
+    )

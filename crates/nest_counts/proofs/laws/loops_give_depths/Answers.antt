@@ -1,6 +1,4 @@
 -- Each statement, and each member of a sequence.
-use Rattle.nest_counts.proofs.BodyFinds.{all_found}
-use Rattle.nest_counts.proofs.Taken.{asks_some}
 use Rattle.nest_counts.proofs.LoopDepths.{loops_give_depths}
 use Rattle.nest_counts.proofs.laws.loops_give_depths.Goals as goal
 
