@@ -1,14 +1,11 @@
 -- An admitted construct: what its directives find, and the kinds of the trees that it runs.
-use Rattle.std.proofs.Common.{◌≡◌, refl, ap, subst, ℕ, ◌+◌, ◌<◌, ◌≤◌, List, [], ◌∷◌, length, Some, true, false, ◌⊎◌, inl, inr, get_or, arith}
+use Rattle.std.proofs.Common.{◌≡◌, refl, subst, ℕ, List, [], ◌∷◌, length, true, inl, inr, get_or, arith}
 use Rattle.std.specs.Prelude.{nat_le}
 use Rattle.std.proofs.lemmas.Bool.{le-leb, and_from}
-use Rattle.c_tree.specs.Placed.{Directive, Stmts}
 use Rattle.c_tree.specs.Forget.{forget_stmts, forget_directive}
-use Rattle.c_semantics.specs.Meaning.State.{State, nowhere}
-use Rattle.c_semantics.specs.Meaning.Expressions.{Define}
-use Rattle.c_semantics.specs.Meaning.FileVariables.{FunctionAccess}
+use Rattle.c_semantics.specs.Meaning.State.{nowhere}
 use Rattle.c_semantics.specs.Loops.IterationTrees.{Tree, nth, widths, pick, build}
-use Rattle.c_semantics.specs.Loops.Transformations.{Transformation, tile, interchange, reverse_, split, fuse, unroll_full, unroll_partial, Plan, plan, Applied}
+use Rattle.c_semantics.specs.Loops.Transformations.{Transformation, tile, interchange, reverse_, split, fuse, unroll_full, unroll_partial, plan, Applied}
 use Rattle.c_semantics.specs.Loops.Directives.{plan_of}
 use Rattle.c_semantics.specs.Loops.Need.{takes, all_at_least, loops_asked}
 use Rattle.canonical_nests.specs.Kinds.{Part, no_part}
@@ -20,7 +17,7 @@ use Rattle.canonical_nests.specs.LoopRules.Programs.{clause_breaches}
 use Rattle.canonical_nests.proofs.BreachSets.{neither_breaks}
 use Rattle.nest_counts.specs.HasKinds.{HasKinds}
 use Rattle.nest_counts.specs.Plans.{Beside, Finds}
-use Rattle.nest_counts.specs.Admitted.{IsAdmitted, TakesRectangle}
+use Rattle.nest_counts.specs.Admitted.{TakesRectangle}
 use Rattle.nest_counts.specs.Laws.{parts_in, StatementsHaveLoops, AdmittedConstructsFind, AdmittedConstructsHaveKinds, AdmittedBodiesHaveKinds, AdmittedCountsHold, AdmittedNestsAreRectangular}
 use Rattle.nest_counts.proofs.Corollaries.{known_counts_hold, taken_loops_are_rectangular}
 use Rattle.nest_counts.proofs.DirectivesFind.{directive_has}

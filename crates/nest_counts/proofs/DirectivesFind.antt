@@ -7,7 +7,7 @@ use Rattle.c_tree.specs.WellFormed.{WellFormedDirective}
 use Rattle.c_tree.specs.declared.tree.Kind.TheVariants.{Tile, Unroll, Interchange, Reverse, Split, Fuse}
 use Rattle.c_semantics.specs.Meaning.State.{State}
 use Rattle.c_semantics.specs.Meaning.Expressions.{Define}
-use Rattle.c_semantics.specs.Loops.Transformations.{Plan, Applied, none_applied, fuse}
+use Rattle.c_semantics.specs.Loops.Transformations.{Plan, none_applied, fuse}
 use Rattle.c_semantics.specs.Loops.Directives.{plan_of, clauses_items, range_in, sizes_in}
 use Rattle.c_semantics.specs.Loops.Need.{all_at_least, if_some, transformed_depths, depths, applied_depths, loops_asked}
 use Rattle.c_semantics.specs.Loops.StatementDepths.{single_depths, member_depths}
@@ -27,7 +27,7 @@ use Rattle.nest_counts.specs.Statements.{StmtFinds, SingleFinds, MembersFind, Di
 use Rattle.nest_counts.proofs.Arguments.{arguments_of_rules_fit, is_other}
 use Rattle.nest_counts.proofs.Asked.{asked_loops_suffice}
 use Rattle.nest_counts.proofs.BodyFinds.{FindsAndGives, one_found, all_found}
-use Rattle.nest_counts.proofs.Found.{some_then, enough_loops}
+use Rattle.nest_counts.proofs.Found.{enough_loops}
 use Rattle.nest_counts.proofs.LoopDepths.{directive_depths, fuse_asks_one, one_body, sequence_body, unwrapped_give}
 use Rattle.nest_counts.proofs.Structured.{sequence_ends}
 use Rattle.nest_counts.proofs.Taken.{takes_some, asks_some}

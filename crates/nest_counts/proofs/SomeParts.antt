@@ -1,5 +1,5 @@
 -- A directive and its items give a part at least, where none of them is `fuse` and their arguments fit.
-use Rattle.std.proofs.Common.{◌≡◌, subst, ℕ, zero, suc, ◌+◌, ◌-◌, ◌<◌, List, [], ◌∷◌, ◌++◌, length, take, Option, Some, None, Bool, true, false, get_or, arith, length-append}
+use Rattle.std.proofs.Common.{◌≡◌, subst, ℕ, zero, suc, ◌-◌, ◌<◌, List, [], ◌∷◌, ◌++◌, length, Option, Some, None, Bool, true, false, arith, length-append}
 use Rattle.std.specs.Prelude.{replicate, nat_le, if◌then◌else◌}
 use Rattle.c_semantics.specs.Loops.Transformations.{Transformation, tile, interchange, reverse_, split, fuse, unroll_full, unroll_partial, Plan, plan, Applied, none_applied, applied_at}
 use Rattle.c_semantics.specs.Loops.Need.{transformed_depths, if_some, nested_depths, part_depths, below_depths, position_depths, depths, applied_depths}

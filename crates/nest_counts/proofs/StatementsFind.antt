@@ -1,11 +1,11 @@
 -- Each directive of a statement that breaks no rule of clauses, structure and counts finds what it takes, and each part of
 -- it has the loops that are wanted, by induction along the statement.
-use Rattle.std.proofs.Common.{◌≡◌, refl, sym, ap, ◌∙◌, subst, ℕ, zero, suc, ◌+◌, ◌<◌, ◌≤◌, List, [], ◌∷◌, ◌++◌, length, Option, Some, None, true, ◌⊎◌, inl, inr, arith, length-append}
+use Rattle.std.proofs.Common.{◌≡◌, refl, ap, ◌∙◌, subst, ℕ, zero, suc, ◌<◌, ◌≤◌, List, [], ◌∷◌, ◌++◌, length, Option, Some, None, true, ◌⊎◌, inl, inr, arith, length-append}
 use Rattle.std.specs.Prelude.{nat_le}
 use Rattle.std.proofs.lemmas.Bool.{leb-true, le-leb, and_parts, and_from}
 use Rattle.c_tree.specs.Bare as b
-use Rattle.c_tree.specs.Placed.{Stmt, for_, block, omp, Stmts, no_stmts, more_stmts, Head, head, Directive, directive}
-use Rattle.c_tree.specs.Forget.{forget_stmt, forget_stmts, forget_head, forget_directive, forget_maybe}
+use Rattle.c_tree.specs.Placed.{Stmt, for_, block, omp, Stmts, no_stmts, more_stmts, head}
+use Rattle.c_tree.specs.Forget.{forget_stmt, forget_stmts, forget_directive, forget_maybe}
 use Rattle.c_tree.specs.WellFormed.{WellFormedStmt, WellFormedStmts}
 use Rattle.c_semantics.specs.Meaning.State.{State}
 use Rattle.c_semantics.specs.Meaning.Expressions.{Define}
@@ -14,19 +14,18 @@ use Rattle.c_semantics.specs.Loops.Need.{all_at_least, loops_asked}
 use Rattle.c_semantics.specs.Loops.StatementDepths.{joined, stmt_depths, single_depths, member_depths, body_depth}
 use Rattle.c_semantics.specs.Structure.Skeleton.{scope_in}
 use Rattle.canonical_nests.specs.Kinds.{Part}
-use Rattle.canonical_nests.specs.Shapes.{source_kind, below_source, stmt_kinds, single_kinds, member_kinds}
+use Rattle.canonical_nests.specs.Shapes.{below_source, stmt_kinds, single_kinds, member_kinds}
 use Rattle.canonical_nests.specs.LoopRules.BreachSets.{BreachSet, ◌&◌, HasNone}
 use Rattle.canonical_nests.specs.LoopRules.Structure as structure
 use Rattle.canonical_nests.specs.LoopRules.Counts as counts
 use Rattle.canonical_nests.specs.LoopRules.Programs.{taken_clauses_in}
 use Rattle.canonical_nests.proofs.BreachSets.{neither_breaks}
-use Rattle.nest_counts.specs.Found.{AllReach, HaveLoops}
-use Rattle.nest_counts.specs.Statements.{StmtFinds, SingleFinds, MembersFind, StmtSaysAlike, StmtsSayAlike}
+use Rattle.nest_counts.specs.Found.{HaveLoops}
+use Rattle.nest_counts.specs.Statements.{SingleFinds}
 use Rattle.nest_counts.specs.Admitted.{rule_breaches}
 use Rattle.nest_counts.proofs.Found.{append_reach}
 use Rattle.nest_counts.proofs.FusedDepths.{all_parts}
 use Rattle.nest_counts.proofs.Places.{length_kinds}
-use Rattle.nest_counts.proofs.Statements.{none_wanted}
 use Rattle.nest_counts.proofs.DirectivesFind.{StmtHas, SingleHas, MembersHave, directive_has}
 
 -- of the same rules, in a list

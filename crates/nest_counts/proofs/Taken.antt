@@ -1,8 +1,8 @@
 -- A directive that breaks no rule of clauses takes a loop at least, and asks for one.
-use Rattle.std.proofs.Common.{◌≡◌, refl, sym, ap, subst, ℕ, zero, suc, ◌+◌, ◌<◌, ◌≤◌, List, [], ◌∷◌, map, length, Option, Some, None, Bool, true, false, arith}
+use Rattle.std.proofs.Common.{◌≡◌, ℕ, ◌<◌, List, map, length, Option, Some, None, Bool, true, false, arith}
 use Rattle.std.specs.Prelude.{unwrap_or, if◌then◌else◌}
 use Rattle.c_tree.specs.Bare as b
-use Rattle.c_tree.specs.Placed.{Exprs, no_exprs, more_exprs, Directive, directive, Clauses, no_clauses, more_clauses, clause, ClauseKind, sizes}
+use Rattle.c_tree.specs.Placed.{Exprs, no_exprs, more_exprs, Directive, directive, Clauses, no_clauses, more_clauses, clause, sizes}
 use Rattle.c_tree.specs.Forget.{forget_exprs, forget_clauses, forget_directive}
 use Rattle.c_tree.specs.WellFormed.{IsNotEmpty, WellFormedDirective, WellFormedClauses}
 use Rattle.c_tree.specs.declared.tree.Kind.TheVariants.{Tile, Unroll, Interchange, Reverse, Split, Fuse}
