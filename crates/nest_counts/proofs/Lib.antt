@@ -26,3 +26,10 @@ pub mod Structured
 pub mod Asked
 pub mod LoopDepths
 pub mod Corollaries
+pub mod SomeParts
+pub mod FusedDepths
+pub mod Taken
+pub mod BodyFinds
+pub mod DirectivesFind
+pub mod StatementsFind
+pub mod Admitted

@@ -1,5 +1,5 @@
 -- A directive and its items find enough loops where they break no rule of structure.
-use Rattle.std.proofs.Common.{◌≡◌, refl, ap, ◌∙◌, subst, ℕ, zero, suc, ◌+◌, ◌-◌, ◌<◌, ◌≤◌, List, [], ◌∷◌, ◌++◌, length, Option, Some, None, Bool, true, false, get_or, arith}
+use Rattle.std.proofs.Common.{◌≡◌, refl, ap, ◌∙◌, subst, ℕ, zero, suc, ◌-◌, ◌<◌, ◌≤◌, List, [], ◌∷◌, ◌++◌, length, Option, Some, None, true, false, get_or, arith}
 use Rattle.std.specs.Prelude.{◌==◌, not, nat_le, nat_lt, unwrap_or, if◌then◌else◌}
 use Rattle.std.specs.List.{list_any}
 use Rattle.std.proofs.lemmas.Bool.{ltb-false, le-leb, or_parts, and_from, eq-eqb}
@@ -12,7 +12,7 @@ use Rattle.canonical_nests.specs.LoopRules.PlacedPlans.{PlacedPlan, plan, Placed
 use Rattle.canonical_nests.specs.LoopRules.Structure as structure
 use Rattle.canonical_nests.specs.LoopRules.Structure.{depth_breaches, depth_at, after_item, ends_within, sequence_breaches}
 use Rattle.nest_counts.specs.Laws.{StructureFindsLoops}
-use Rattle.canonical_nests.proofs.BreachSets.{neither_breaks, none_if}
+use Rattle.canonical_nests.proofs.BreachSets.{neither_breaks, none_if, none_unless}
 
 -- ---- depths
 
@@ -81,6 +81,11 @@ sequence_some r at range w ks h =
     let q = neither_breaks (breach_if (list_any (λ k. k == 0) ks) L22 at & breach_if (not (ends_within (fuse r) (length ks))) L19 range) (structure.items_breaches (fuse r) w (transformed_depths (fuse r) ks)) h in
     let s = items_some (fuse r) w (transformed_depths (fuse r) ks) q.1 in
     (s.0, ap (λ x. if x then applied_depths (fuse r) (forget_items w) (transformed_depths (fuse r) ks) else None) (none_empty ks (none_if (list_any (λ k. k == 0) ks) L22 at q.0.0)) ∙ s.1)
+
+pub sequence_ends : (r : Option (ℕ × ℕ)) (at range : ℕ) (w : PlacedItems) (ks : List ℕ) → HasNone (sequence_breaches (plan (fuse r) at w) range ks) → ends_within (fuse r) (length ks) ≡ true
+sequence_ends r at range w ks h =
+    let q = neither_breaks (breach_if (list_any (λ k. k == 0) ks) L22 at & breach_if (not (ends_within (fuse r) (length ks))) L19 range) (structure.items_breaches (fuse r) w (transformed_depths (fuse r) ks)) h in
+    none_unless (ends_within (fuse r) (length ks)) L19 range q.0.1
 
 pub structure_finds_loops : StructureFindsLoops
 structure_finds_loops p k h = plan_some p k h
