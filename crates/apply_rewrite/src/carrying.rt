@@ -2,7 +2,7 @@
 //! as before.
 
 ghost use Rattle.std.specs.Prelude.{◌≡◌, ◌≢◌, ◌∷◌, [], IfOk, MatchOption, OnOk, length};
-ghost use Rattle.std.specs.Option.{IfSome, option_map, unwrap_or};
+ghost use Rattle.std.specs.Option.{option_map};
 ghost use Rattle.c_tree.specs.Bare as b;
 ghost use Rattle.c_tree.specs.BareOf.{bare_directive, bare_head, bare_program, bare_stmt, bare_stmts};
 ghost use Rattle.c_tree.specs.Constants.{DefinesAreHeld};
@@ -86,13 +86,23 @@ fn carried(
             span,
         } => {
             let yes = carried_all(alloc, defines, scope, yes, fresh)?;
-            let no = carried_else(alloc, defines, scope, no, fresh)?;
-            Ok(Stmt::If {
-                test,
-                yes,
-                no,
-                span,
-            })
+            match no {
+                None => Ok(Stmt::If {
+                    test,
+                    yes,
+                    no: None,
+                    span,
+                }),
+                Some(no) => {
+                    let no = Some(carried_all(alloc, defines, scope, no, fresh)?);
+                    Ok(Stmt::If {
+                        test,
+                        yes,
+                        no,
+                        span,
+                    })
+                }
+            }
         }
         Stmt::While { test, body, span } => {
             let body = carried_all(alloc, defines, scope, body, fresh)?;
@@ -119,27 +129,6 @@ fn carried(
             Ok(block(statements(alloc, code)?))
         }
         other => Ok(other),
-    }
-}
-
-/// What stands after `else`, where something does, with its constructs carried out.
-#[cycle(carrying)]
-fn carried_else(
-    alloc: Global,
-    defines: &Program,
-    scope: &mut Scope,
-    no: Option<StmtList>,
-    fresh: &mut Fresh,
-) -> Result<Option<StmtList>, AllocError>
-    requires defines_held { DefinesAreHeld (bare_program defines.now) }
-    requires well_formed { IfSome no (λ stmts. WellFormedStmts (bare_stmts stmts)) }
-    ensures tree { IfOk result (λ answer. option_map bare_stmts answer ≡ option_map (λ stmts. (c.carried_all (program_defines (bare_program defines.now)) scope.old (bare_stmts stmts) fresh.old).tree) no) }
-    ensures left { OnOk result (fresh.new ≡ unwrap_or (option_map (λ stmts. (c.carried_all (program_defines (bare_program defines.now)) scope.old (bare_stmts stmts) fresh.old).left) no) fresh.old) }
-    ensures scope { OnOk result (scope.new ≡ scope.old) }
-{
-    match no {
-        None => Ok(None),
-        Some(no) => Ok(Some(carried_all(alloc, defines, scope, no, fresh)?)),
     }
 }
 
