@@ -26,9 +26,6 @@ use Rattle.carried_out.specs.CarriedOut.{carried, carried_all, nest, nest_in, no
 done_more : (done : List Stmt) (y : Stmt) → bare_stmts (done ++ y ∷ []) ≡ join (bare_stmts done) (only (bare_stmt y))
 done_more done y = stmts_join done (y ∷ [])
 
-bare_one : (e : Expr) (ts : List Stmt) (at : Span) → bare_stmt (v.If e ts None at) ≡ b.if_ (bare_expr e) (bare_stmts ts)
-bare_one e ts at = ap bare_stmt (sym (v.rolls-If e ts None at)) ∙ fold-roll-Stmt b.Stmt b.Head stmt_layer head_layer (layer.If e ts None at)
-
 bare_two : (e : Expr) (ts es : List Stmt) (at : Span) → bare_stmt (v.If e ts (Some es) at) ≡ b.if_else (bare_expr e) (bare_stmts ts) (bare_stmts es)
 bare_two e ts es at = ap bare_stmt (sym (v.rolls-If e ts (Some es) at)) ∙ fold-roll-Stmt b.Stmt b.Head stmt_layer head_layer (layer.If e ts (Some es) at)
 
@@ -40,7 +37,22 @@ after_more (y ∷ xs) x s = after_more xs x (scope_after (bare_stmt y) s)
 module _ (ds : List Define) where
   -- a declaration stays one, and nothing else becomes one
   carried_after : (s : State) (a : b.Stmt) (f : FreshNames) (u : State) → scope_after (carried ds s a f).tree u ≡ scope_after a u
-  carried_after s a f u = refl
+  carried_after s (b.decl t x e) f u = refl
+  carried_after s (b.set t op e) f u = refl
+  carried_after s (b.step t up) f u = refl
+  carried_after s (b.print e) f u = refl
+  carried_after s (b.input t) f u = refl
+  carried_after s (b.if_ e a) f u = refl
+  carried_after s (b.if_else e a c) f u = refl
+  carried_after s (b.while_ e a) f u = refl
+  carried_after s (b.do_ a e) f u = refl
+  carried_after s (b.for_ h a) f u = refl
+  carried_after s (b.block a) f u = refl
+  carried_after s b.break_ f u = refl
+  carried_after s b.continue_ f u = refl
+  carried_after s b.empty f u = refl
+  carried_after s (b.omp d a) f u = refl
+  carried_after s (b.call x es) f u = refl
 
   tree_more : (s : State) (xs : List Stmt) (x : Stmt) (f : FreshNames) →
       (carried_all ds s (bare_stmts (xs ++ x ∷ [])) f).tree ≡ join (carried_all ds s (bare_stmts xs) f).tree (only (carried ds (all_after (bare_stmts xs) s) (bare_stmt x) (carried_all ds s (bare_stmts xs) f).left).tree)
@@ -69,40 +81,20 @@ module _ (ds : List Define) where
     scope_step w y one e =
         e ∙ ap (λ a. scope_after a u) one ∙ carried_after u (bare_stmt x) g u ∙ ap (scope_after (bare_stmt x)) seen ∙ sym (after_more xs x s)
 
-  -- an `if` with both branches, and one with the first alone
-  both : (s u : State) (stmt : Stmt) (e : Expr) (ts es : List Stmt) (at : Span) (f g : FreshNames) (ts' es' : List Stmt) → u ≡ s →
+  -- an `if` with both branches
+  pub if_both : (s u : State) (stmt : Stmt) (e : Expr) (ts es : List Stmt) (at : Span) (f g : FreshNames) (ts' es' : List Stmt) → u ≡ s →
       stmt ≡ v.If e ts (Some es) at → bare_stmts ts' ≡ (carried_all ds s (bare_stmts ts) f).tree → g ≡ (carried_all ds s (bare_stmts ts) f).left → bare_stmts es' ≡ (carried_all ds u (bare_stmts es) g).tree →
       bare_stmt (v.If e ts' (Some es') at) ≡ (carried ds s (bare_stmt stmt) f).tree
-  both s u stmt e ts es at f g ts' es' seen is first left second =
+  if_both s u stmt e ts es at f g ts' es' seen is first left second =
       bare_two e ts' es' at ∙ ap (λ a. b.if_else (bare_expr e) a (bare_stmts es')) first
       ∙ ap (λ a. b.if_else (bare_expr e) (carried_all ds s (bare_stmts ts) f).tree a) (second ∙ (λ i. (carried_all ds (seen i) (bare_stmts es) (left i)).tree))
       ∙ ap (λ a. (carried ds s a f).tree) (sym (ap bare_stmt is ∙ bare_two e ts es at))
 
-  -- what is made of an `if`, and the names that are left
-  pub if_tree : (s u : State) (stmt : Stmt) (e : Expr) (ts : List Stmt) (no : Option (List Stmt)) (at : Span) (f g : FreshNames) (ts' : List Stmt) (no' : Option (List Stmt)) → u ≡ s →
-      stmt ≡ v.If e ts no at → bare_stmts ts' ≡ (carried_all ds s (bare_stmts ts) f).tree → g ≡ (carried_all ds s (bare_stmts ts) f).left →
-      option_map bare_stmts no' ≡ option_map (λ es. (carried_all ds u (bare_stmts es) g).tree) no → bare_stmt (v.If e ts' no' at) ≡ (carried ds s (bare_stmt stmt) f).tree
-  if_tree s u stmt e ts None at f g ts' None seen is first left second =
-      bare_one e ts' at ∙ ap (b.if_ (bare_expr e)) first ∙ ap (λ a. (carried ds s a f).tree) (sym (ap bare_stmt is ∙ bare_one e ts at))
-  if_tree s u stmt e ts None at f g ts' (Some es') seen is first left second = absurd (cc)
-  if_tree s u stmt e ts (Some es) at f g ts' None seen is first left second = absurd (cc)
-  if_tree s u stmt e ts (Some es) at f g ts' (Some es') seen is first left second =
-      both s u stmt e ts es at f g ts' es' seen is first left (ap (λ o. unwrap_or o b.no_stmts) second)
-
-  pub if_left : (s u : State) (stmt : Stmt) (e : Expr) (ts : List Stmt) (no : Option (List Stmt)) (at : Span) (f g h : FreshNames) → u ≡ s →
-      stmt ≡ v.If e ts no at → g ≡ (carried_all ds s (bare_stmts ts) f).left → h ≡ unwrap_or (option_map (λ es. (carried_all ds u (bare_stmts es) g).left) no) g → h ≡ (carried ds s (bare_stmt stmt) f).left
-  if_left s u stmt e ts None at f g h seen is left second = second ∙ left ∙ ap (λ a. (carried ds s a f).left) (sym (ap bare_stmt is ∙ bare_one e ts at))
-  if_left s u stmt e ts (Some es) at f g h seen is left second =
-      second ∙ (λ i. (carried_all ds (seen i) (bare_stmts es) (left i)).left) ∙ ap (λ a. (carried ds s a f).left) (sym (ap bare_stmt is ∙ bare_two e ts es at))
-
-  -- a list that is not one statement leads to no loop, and one statement leads where it leads itself
+  -- a list that is not one statement leads to no loop
   pub nest_other : (s : State) (xs : List Stmt) (f : FreshNames) → length xs ≢ 1 → nest ds s (bare_stmts xs) f ≡ no_code f
   nest_other s [] f many = refl
   nest_other s (x ∷ []) f many = absurd (many refl)
   nest_other s (x ∷ y ∷ xs) f many = refl
-
-  pub nest_alone : (s : State) (xs : List Stmt) (x : Stmt) (f : FreshNames) → xs ≡ x ∷ [] → nest ds s (bare_stmts xs) f ≡ nest_in ds s (bare_stmt x) f
-  nest_alone s xs x f e = ap (λ ys. nest ds s (bare_stmts ys) f) e
 
   other_layer : (s : State) (x : Stmt-F Stmt ForHead) (f : FreshNames) →
       ((h : ForHead) (ts : List Stmt) (at : Span) → roll-Stmt x ≡ v.For h ts at → ⊥) → ((ts : List Stmt) (at : Span) → roll-Stmt x ≡ v.Block ts at → ⊥) →
@@ -133,15 +125,6 @@ module _ (ds : List Define) where
       ap (λ z. nest_in ds s (bare_stmt z) f) rolled
       ∙ other_layer s (out-Stmt stmt) f (λ h ts at e. no_loop h ts at (rolled ∙ e)) (λ ts at e. no_block ts at (rolled ∙ e)) (λ d ts at e. no_omp d ts at (rolled ∙ e))
 
--- the branches of a well-formed `if`
-pub yes_well_formed : (stmt : Stmt) (e : Expr) (ts : List Stmt) (no : Option (List Stmt)) (at : Span) → stmt ≡ v.If e ts no at → WellFormedStmt (bare_stmt stmt) → WellFormedStmts (bare_stmts ts)
-yes_well_formed stmt e ts None at is w = (subst WellFormedStmt (ap bare_stmt is ∙ bare_one e ts at) w).1
-yes_well_formed stmt e ts (Some es) at is w = (subst WellFormedStmt (ap bare_stmt is ∙ bare_two e ts es at) w).1
-
-pub no_well_formed : (stmt : Stmt) (e : Expr) (ts : List Stmt) (no : Option (List Stmt)) (at : Span) → stmt ≡ v.If e ts no at → WellFormedStmt (bare_stmt stmt) → IfSome no (λ es. WellFormedStmts (bare_stmts es))
-no_well_formed stmt e ts None at is w = tt
-no_well_formed stmt e ts (Some es) at is w = (subst WellFormedStmt (ap bare_stmt is ∙ bare_two e ts es at) w).2
-
 -- ---- what a loop over statements by value has left
 
 among_well_formed : (xs : List Stmt) (x : Stmt) (ys : List Stmt) → WellFormedStmts (bare_stmts (xs ++ x ∷ ys)) → WellFormedStmt (bare_stmt x)
@@ -159,9 +142,6 @@ next_no_larger size xs x ys all e =
 pub next_whole : (xs : List Stmt) (x : Stmt) (ys zs all : List Stmt) → all ≡ xs ++ zs → zs ≡ x ∷ ys → all ≡ xs ++ x ∷ [] ++ ys
 next_whole xs x ys zs all e h = e ∙ ap (λ us. xs ++ us) h ∙ sym (append_assoc xs (x ∷ []) ys)
 
-pub first_well_formed : (x : Stmt) (xs all : List Stmt) → all ≡ x ∷ xs → WellFormedStmts (bare_stmts all) → WellFormedStmt (bare_stmt x)
-first_well_formed x xs all e w = (subst (λ zs. WellFormedStmts (bare_stmts zs)) e w).0
-
 -- ---- a list of one
 
 pub one_left : (xs : List Stmt) (x : Stmt) → length xs ≡ 1 → x ≡ slice_index_or xs 0 x → xs ≡ x ∷ []
@@ -170,7 +150,3 @@ one_left (y ∷ []) x h e = ap (λ z. z ∷ []) (sym e)
 one_left (y ∷ z ∷ xs) x h e = absurd (omega (arith, h))
 
 pub ruleset lone = (one_left)
-
-pub ruleset carrying = (nest_alone, first_well_formed)
-
-pub ruleset branches = (if_tree, if_left, yes_well_formed, no_well_formed)

@@ -2,9 +2,9 @@
 //! as before.
 
 ghost use Rattle.std.specs.Prelude.{◌≡◌, ◌≢◌, ◌∷◌, [], IfOk, MatchOption, OnOk, length};
-ghost use Rattle.std.specs.Option.{IfSome, option_map, unwrap_or};
+ghost use Rattle.std.specs.Option.{option_map};
 ghost use Rattle.c_tree.specs.Bare as b;
-ghost use Rattle.c_tree.specs.BareOf.{bare_directive, bare_program, bare_stmt, bare_stmts};
+ghost use Rattle.c_tree.specs.BareOf.{bare_directive, bare_head, bare_program, bare_stmt, bare_stmts};
 ghost use Rattle.c_tree.specs.Constants.{DefinesAreHeld};
 ghost use Rattle.c_tree.specs.WellFormed.{WellFormedStmt, WellFormedStmts};
 ghost use Rattle.canonical_nests.specs.Canonical.{program_defines};
@@ -16,7 +16,7 @@ ghost use Rattle.carried_out.specs.CarriedOut as c;
 use crate::heads::typed_head;
 use crate::plans::{plan, planned};
 use crate::scope::Scope;
-use c_tree::tree::{Directive, Program, Stmt, StmtList};
+use c_tree::tree::{Directive, ForHead, Program, Stmt, StmtList};
 use loop_normal::fresh::Fresh;
 use loop_normal::generated::Gen;
 use loop_normal::normal::{OwnedLoop, normal_leaf};
@@ -64,7 +64,6 @@ fn alone(stmts: StmtList) -> Option<Stmt>
 }
 
 /// A statement with its constructs carried out.
-#[tactic(auto, using(crate::proofs::Scopes::leaving, crate::proofs::StatementMore::branches))]
 #[cycle(carrying)]
 fn carried(
     alloc: Global,
@@ -87,13 +86,23 @@ fn carried(
             span,
         } => {
             let yes = carried_all(alloc, defines, scope, yes, fresh)?;
-            let no = carried_else(alloc, defines, scope, no, fresh)?;
-            Ok(Stmt::If {
-                test,
-                yes,
-                no,
-                span,
-            })
+            match no {
+                None => Ok(Stmt::If {
+                    test,
+                    yes,
+                    no: None,
+                    span,
+                }),
+                Some(no) => {
+                    let no = Some(carried_all(alloc, defines, scope, no, fresh)?);
+                    Ok(Stmt::If {
+                        test,
+                        yes,
+                        no,
+                        span,
+                    })
+                }
+            }
         }
         Stmt::While { test, body, span } => {
             let body = carried_all(alloc, defines, scope, body, fresh)?;
@@ -104,10 +113,7 @@ fn carried(
             Ok(Stmt::Do { body, test, span })
         }
         Stmt::For { head, body, span } => {
-            let len = scope.len();
-            scope.add_head(alloc, &head)?;
-            let body = carried_all(alloc, defines, scope, body, fresh)?;
-            scope.keep(len);
+            let body = carried_in_head(alloc, defines, scope, body, &head, fresh)?;
             Ok(Stmt::For { head, body, span })
         }
         Stmt::Block { body, span } => {
@@ -126,29 +132,7 @@ fn carried(
     }
 }
 
-/// What stands after `else`, where something does, with its constructs carried out.
-#[cycle(carrying)]
-fn carried_else(
-    alloc: Global,
-    defines: &Program,
-    scope: &mut Scope,
-    no: Option<StmtList>,
-    fresh: &mut Fresh,
-) -> Result<Option<StmtList>, AllocError>
-    requires defines_held { DefinesAreHeld (bare_program defines.now) }
-    requires well_formed { IfSome no (λ stmts. WellFormedStmts (bare_stmts stmts)) }
-    ensures tree { IfOk result (λ answer. option_map bare_stmts answer ≡ option_map (λ stmts. (c.carried_all (program_defines (bare_program defines.now)) scope.old (bare_stmts stmts) fresh.old).tree) no) }
-    ensures left { OnOk result (fresh.new ≡ unwrap_or (option_map (λ stmts. (c.carried_all (program_defines (bare_program defines.now)) scope.old (bare_stmts stmts) fresh.old).left) no) fresh.old) }
-    ensures scope { OnOk result (scope.new ≡ scope.old) }
-{
-    match no {
-        None => Ok(None),
-        Some(no) => Ok(Some(carried_all(alloc, defines, scope, no, fresh)?)),
-    }
-}
-
 /// A list with the constructs in it carried out.
-#[tactic(auto, using(crate::proofs::Scopes::leaving))]
 #[cycle(carrying)]
 pub(crate) fn carried_all(
     alloc: Global,
@@ -174,6 +158,52 @@ pub(crate) fn carried_all(
     Ok(done)
 }
 
+/// The body of a loop with this head, carried out where what the head declares is visible.
+#[cycle(carrying)]
+fn carried_in_head(
+    alloc: Global,
+    defines: &Program,
+    scope: &mut Scope,
+    body: StmtList,
+    head: &ForHead,
+    fresh: &mut Fresh,
+) -> Result<StmtList, AllocError>
+    requires defines_held { DefinesAreHeld (bare_program defines.now) }
+    requires well_formed { WellFormedStmts (bare_stmts body) }
+    ensures tree { IfOk result (λ answer. bare_stmts answer ≡ (c.carried_all (program_defines (bare_program defines.now)) (c.in_head (bare_head head.now) scope.old) (bare_stmts body) fresh.old).tree) }
+    ensures left { OnOk result (fresh.new ≡ (c.carried_all (program_defines (bare_program defines.now)) (c.in_head (bare_head head.now) scope.old) (bare_stmts body) fresh.old).left) }
+    ensures scope { OnOk result (scope.new ≡ scope.old) }
+{
+    let len = scope.len();
+    scope.add_head(alloc, head)?;
+    let body = carried_all(alloc, defines, scope, body, fresh)?;
+    scope.keep(len);
+    Ok(body)
+}
+
+/// The body of a loop that a construct takes, carried out where the loop's variable is visible.
+#[cycle(carrying)]
+fn carried_in_loop(
+    alloc: Global,
+    defines: &Program,
+    scope: &mut Scope,
+    body: StmtList,
+    found: &Option<OwnedLoop>,
+    fresh: &mut Fresh,
+) -> Result<StmtList, AllocError>
+    requires defines_held { DefinesAreHeld (bare_program defines.now) }
+    requires well_formed { WellFormedStmts (bare_stmts body) }
+    ensures tree { IfOk result (λ answer. bare_stmts answer ≡ (c.carried_all (program_defines (bare_program defines.now)) (c.scope_below scope.old (option_map source_of found.now)) (bare_stmts body) fresh.old).tree) }
+    ensures left { OnOk result (fresh.new ≡ (c.carried_all (program_defines (bare_program defines.now)) (c.scope_below scope.old (option_map source_of found.now)) (bare_stmts body) fresh.old).left) }
+    ensures scope { OnOk result (scope.new ≡ scope.old) }
+{
+    let len = scope.len();
+    scope.add_loop(alloc, found)?;
+    let body = carried_all(alloc, defines, scope, body, fresh)?;
+    scope.keep(len);
+    Ok(body)
+}
+
 /// The code of a directive's loop under its plan.
 #[cycle(carrying)]
 fn construct(
@@ -196,7 +226,6 @@ fn construct(
 }
 
 /// The code of the loop that a list leads to, through braces and further directives, and none where it leads to none.
-#[tactic(auto, using(crate::proofs::StatementMore::carrying))]
 #[cycle(carrying)]
 fn nest(
     alloc: Global,
@@ -217,7 +246,6 @@ fn nest(
     }
 }
 
-#[tactic(auto, using(crate::proofs::Scopes::leaving))]
 #[cycle(carrying)]
 fn nest_in(
     alloc: Global,
@@ -239,10 +267,7 @@ fn nest_in(
             span: _span,
         } => {
             let found = typed_head(alloc, defines, scope, head)?;
-            let len = scope.len();
-            scope.add_loop(alloc, &found)?;
-            let body = carried_all(alloc, defines, scope, body, fresh)?;
-            scope.keep(len);
+            let body = carried_in_loop(alloc, defines, scope, body, &found, fresh)?;
             leaf(alloc, found, body, fresh)
         }
         Stmt::Block { body, span: _span } => nest(alloc, defines, scope, body, fresh),
