@@ -17,8 +17,8 @@ use Rattle.canonical_nests.specs.LoopRules.Programs.{clause_breaches}
 use Rattle.canonical_nests.proofs.BreachSets.{neither_breaks}
 use Rattle.nest_counts.specs.HasKinds.{HasKinds}
 use Rattle.nest_counts.specs.Plans.{Beside, Finds}
-use Rattle.nest_counts.specs.Admitted.{TakesRectangle}
-use Rattle.nest_counts.specs.Laws.{parts_in, StatementsHaveLoops, AdmittedConstructsFind, AdmittedConstructsHaveKinds, AdmittedBodiesHaveKinds, AdmittedCountsHold, AdmittedNestsAreRectangular}
+use Rattle.nest_counts.specs.Admitted.{parts_in, TakesRectangle}
+use Rattle.nest_counts.specs.Laws.{StatementsHaveLoops, AdmittedConstructsFind, AdmittedConstructsHaveKinds, AdmittedBodiesHaveKinds, AdmittedCountsHold, AdmittedNestsAreRectangular}
 use Rattle.nest_counts.proofs.Corollaries.{known_counts_hold, taken_loops_are_rectangular}
 use Rattle.nest_counts.proofs.DirectivesFind.{directive_has}
 use Rattle.nest_counts.proofs.LoopDepths.{body_gives}
@@ -48,29 +48,29 @@ admitted_constructs_find ds fs scope s d a ok =
     e.1 (none_wanted e.0) (inl (omega arith))).0 ok.typed
 
 pub admitted_constructs_have_kinds : AdmittedConstructsHaveKinds
-admitted_constructs_have_kinds ds fs scope s d a ts ok e =
+admitted_constructs_have_kinds ds fs scope s d a ok ts e =
     constructs_have_kinds ds scope s (forget_directive d) (forget_stmts a) ts (admitted_constructs_find ds fs scope s d a ok) e
 
 pub admitted_bodies_have_kinds : AdmittedBodiesHaveKinds
-admitted_bodies_have_kinds ds fs scope s d a ts ok e =
+admitted_bodies_have_kinds ds fs scope s d a ok ts e =
     bodies_have_kinds ds scope s (forget_directive d) (forget_stmts a) ts (admitted_constructs_find ds fs scope s d a ok) e
 
 pub admitted_counts_hold : AdmittedCountsHold
-admitted_counts_hold ds fs scope s d a ts ok e j n v part loop is =
-    known_counts_hold _ (nth j ts) (beside_at HasKinds _ ts (admitted_constructs_have_kinds ds fs scope s d a ts ok e) j part) n v loop is
+admitted_counts_hold ds fs scope s d a ok ts e j n v part loop is =
+    known_counts_hold _ (nth j ts) (beside_at HasKinds _ ts (admitted_constructs_have_kinds ds fs scope s d a ok ts e) j part) n v loop is
 
 -- ---- rectangles
 
 rectangle : (c : Transformation) (w : Applied) (ps : List Part) (ts : List Tree) → TakesRectangle c → Finds (plan c w) 0 ps → Beside HasKinds ps ts → nth 0 ts ≡ build (widths (takes c) (nth 0 ts)) (pick (nth 0 ts))
-rectangle (tile ss) w ps ts takes finds has = taken_loops_are_rectangular (get_or ps 0 no_part) (nth 0 ts) (beside_at HasKinds ps ts has 0 finds.0.0) 0 (length ss) finds.0.1.1 finds.0.1.2
-rectangle (interchange qs) w ps ts takes finds has = taken_loops_are_rectangular (get_or ps 0 no_part) (nth 0 ts) (beside_at HasKinds ps ts has 0 finds.0.0) 0 (length qs) finds.0.1.1 finds.0.1.2
-rectangle reverse_ w ps ts takes finds has = absurd takes
-rectangle (split cs) w ps ts takes finds has = absurd takes
-rectangle (fuse r) w ps ts takes finds has = absurd takes
-rectangle unroll_full w ps ts takes finds has = absurd takes
-rectangle (unroll_partial f) w ps ts takes finds has = absurd takes
+rectangle (tile ss) w ps ts square finds has = taken_loops_are_rectangular (get_or ps 0 no_part) (nth 0 ts) (beside_at HasKinds ps ts has 0 finds.0.0) 0 (length ss) finds.0.1.1 finds.0.1.2
+rectangle (interchange qs) w ps ts square finds has = taken_loops_are_rectangular (get_or ps 0 no_part) (nth 0 ts) (beside_at HasKinds ps ts has 0 finds.0.0) 0 (length qs) finds.0.1.1 finds.0.1.2
+rectangle reverse_ w ps ts square finds has = absurd square
+rectangle (split cs) w ps ts square finds has = absurd square
+rectangle (fuse r) w ps ts square finds has = absurd square
+rectangle unroll_full w ps ts square finds has = absurd square
+rectangle (unroll_partial f) w ps ts square finds has = absurd square
 
 pub admitted_nests_are_rectangular : AdmittedNestsAreRectangular
-admitted_nests_are_rectangular ds fs scope s d a ts ok e c w is takes =
-    rectangle c w (parts_in ds scope d a) ts takes
-    (subst (λ p. Finds p 0 (parts_in ds scope d a)) is (admitted_constructs_find ds fs scope s d a ok).1) (admitted_bodies_have_kinds ds fs scope s d a ts ok e)
+admitted_nests_are_rectangular ds fs scope s d a ok ts e c w is square =
+    rectangle c w (parts_in ds scope d a) ts square
+    (subst (λ p. Finds p 0 (parts_in ds scope d a)) is (admitted_constructs_find ds fs scope s d a ok).1) (admitted_bodies_have_kinds ds fs scope s d a ok ts e)

@@ -10,7 +10,7 @@ use Rattle.c_semantics.specs.Meaning.FileVariables.{FunctionAccess}
 use Rattle.c_semantics.specs.Loops.Directives.{plan_of}
 use Rattle.c_semantics.specs.Loops.Need.{takes, depths, all_at_least, loops_asked}
 use Rattle.c_semantics.specs.Loops.StatementDepths.{stmt_depths}
-use Rattle.c_semantics.specs.Loops.Forest.{nest_all, forest}
+use Rattle.c_semantics.specs.Loops.Forest.{forest}
 use Rattle.c_semantics.specs.Loops.IterationTrees.{Tree, nth, widths, pick, build}
 use Rattle.c_semantics.specs.Loops.Transformations.{Transformation, Plan, plan, Applied, apply_plan}
 use Rattle.canonical_nests.specs.declared.nest.CountKind.TheVariants.{Known}
@@ -29,7 +29,7 @@ use Rattle.nest_counts.specs.Plans.{IsOrder, Finds, PartsHave, Beside}
 use Rattle.nest_counts.specs.Statements.{ConstructFinds}
 use Rattle.nest_counts.specs.Found.{ArgumentsFit, IsNoFuse, EachAtMost, HaveLoops, lengths_below}
 use Rattle.nest_counts.specs.Bounds.{ConstructBounds}
-use Rattle.nest_counts.specs.Admitted.{rule_breaches, IsAdmitted, TakesRectangle}
+use Rattle.nest_counts.specs.Admitted.{rule_breaches, EachAdmitted, trees_in, parts_in, trees_run, parts_run, TakesRectangle}
 
 -- where the count of a loop is known, every tree at its depth is a loop of that many turns
 abbrev pub KnownCountsHold : Type 0
@@ -120,39 +120,27 @@ StatementsHaveLoops =
 
 -- in an admitted construct each directive finds what it takes
 abbrev pub AdmittedConstructsFind : Type 0
-AdmittedConstructsFind =
-    (ds : List Define) (fs : List FunctionAccess) (scope s : State) (d : placed.Directive) (a : placed.Stmts) → IsAdmitted ds fs scope s d a →
-    ConstructFinds ds s scope (forget_directive d) (forget_stmts a)
-
--- the parts in the body of a construct, and those that it runs
-abbrev pub parts_in : List Define → State → placed.Directive → placed.Stmts → List Part
-parts_in ds scope d a = body_kinds ds scope (loops_asked (plan_of ds (forget_directive d)) 0) (forget_directive d) (forget_stmts a)
-
-abbrev pub parts_run : List Define → State → placed.Directive → placed.Stmts → List Part
-parts_run ds scope d a = plan_kinds (plan_of ds (forget_directive d)) 0 (parts_in ds scope d a)
+AdmittedConstructsFind = EachAdmitted (λ ds scope s d a. ConstructFinds ds s scope (forget_directive d) (forget_stmts a))
 
 -- so the parts that it runs have the kinds that the rules of counts see
 abbrev pub AdmittedConstructsHaveKinds : Type 0
 AdmittedConstructsHaveKinds =
-    (ds : List Define) (fs : List FunctionAccess) (scope s : State) (d : placed.Directive) (a : placed.Stmts) (ts : List Tree) → IsAdmitted ds fs scope s d a →
-    forest ds s (forget_directive d) (forget_stmts a) ≡ Ok ts → Beside HasKinds (parts_run ds scope d a) ts
+    EachAdmitted (λ ds scope s d a. (ts : List Tree) → trees_run ds s d a ≡ Ok ts → Beside HasKinds (parts_run ds scope d a) ts)
 
 -- and so have the parts in its body, on which its directive acts
 abbrev pub AdmittedBodiesHaveKinds : Type 0
 AdmittedBodiesHaveKinds =
-    (ds : List Define) (fs : List FunctionAccess) (scope s : State) (d : placed.Directive) (a : placed.Stmts) (ts : List Tree) → IsAdmitted ds fs scope s d a →
-    nest_all apply_plan ds s 0 (loops_asked (plan_of ds (forget_directive d)) 0) (forget_stmts a) ≡ Ok ts → Beside HasKinds (parts_in ds scope d a) ts
+    EachAdmitted (λ ds scope s d a. (ts : List Tree) → trees_in ds s d a ≡ Ok ts → Beside HasKinds (parts_in ds scope d a) ts)
 
--- where the count of a loop of a part is known, every tree at its depth is a loop of that many turns
+-- where the count of a loop of a part that it runs is known, every tree at its depth is a loop of that many turns
 abbrev pub AdmittedCountsHold : Type 0
 AdmittedCountsHold =
-    (ds : List Define) (fs : List FunctionAccess) (scope s : State) (d : placed.Directive) (a : placed.Stmts) (ts : List Tree) → IsAdmitted ds fs scope s d a →
-    forest ds s (forget_directive d) (forget_stmts a) ≡ Ok ts → (j n v : ℕ) → j < length (parts_run ds scope d a) → n < length (get_or (parts_run ds scope d a) j no_part) →
-    kind_at (get_or (parts_run ds scope d a) j no_part) n ≡ Known v → EachBelow (λ u. IsLoop u × turns u ≡ v) n (nth j ts)
+    EachAdmitted (λ ds scope s d a. (ts : List Tree) → trees_run ds s d a ≡ Ok ts → (j n v : ℕ) → j < length (parts_run ds scope d a) →
+    n < length (get_or (parts_run ds scope d a) j no_part) → kind_at (get_or (parts_run ds scope d a) j no_part) n ≡ Known v →
+    EachBelow (λ u. IsLoop u × turns u ≡ v) n (nth j ts))
 
 -- the loops that `tile` or `interchange` takes are a nest that is as wide everywhere
 abbrev pub AdmittedNestsAreRectangular : Type 0
 AdmittedNestsAreRectangular =
-    (ds : List Define) (fs : List FunctionAccess) (scope s : State) (d : placed.Directive) (a : placed.Stmts) (ts : List Tree) → IsAdmitted ds fs scope s d a →
-    nest_all apply_plan ds s 0 (loops_asked (plan_of ds (forget_directive d)) 0) (forget_stmts a) ≡ Ok ts →
-    (c : Transformation) (w : Applied) → plan_of ds (forget_directive d) ≡ plan c w → TakesRectangle c → nth 0 ts ≡ build (widths (takes c) (nth 0 ts)) (pick (nth 0 ts))
+    EachAdmitted (λ ds scope s d a. (ts : List Tree) → trees_in ds s d a ≡ Ok ts → (c : Transformation) (w : Applied) →
+    plan_of ds (forget_directive d) ≡ plan c w → TakesRectangle c → nth 0 ts ≡ build (widths (takes c) (nth 0 ts)) (pick (nth 0 ts)))
