@@ -1,5 +1,5 @@
 -- Carrying out one statement more, and what a walk over statements by value knows of them.
-use Rattle.std.proofs.Common.{◌≡◌, ◌≢◌, refl, sym, ap, ◌∙◌, subst, ℕ, ◌≤◌, max, Option, Some, None, List, [], ◌∷◌, ◌++◌, length, append_assoc, slice_index_or, arith}
+use Rattle.std.proofs.Common.{◌≡◌, ◌≢◌, refl, sym, ap, ◌∙◌, subst, ℕ, ◌≤◌, max, Some, None, List, [], ◌∷◌, ◌++◌, length, append_assoc, slice_index_or, arith}
 use denote.Param.Weighed.{most, most-append}
 use Rattle.c_tree.specs.Bare as b
 use Rattle.c_tree.specs.Bare.{more_stmts}

@@ -1,5 +1,5 @@
 -- One statement more is carried out; it is among those of the list, so it is well formed and no larger.
-use Rattle.std.proofs.Common.{Some, ◌≡◌, ◌≤◌, ◌++◌, sym, ap, ◌∙◌, rules, arith}
+use Rattle.std.proofs.Common.{◌≡◌, ◌≤◌, ◌++◌, sym, ap, ◌∙◌, rules, arith}
 use Rattle.std.specs.Vec.Iter.{into_iter_items}
 use denote.Param.Weighed.{most}
 use Rattle.c_semantics.specs.Structure.Skeleton.{scope_after}
