@@ -20,17 +20,17 @@ module _ (ds : List Define) where
     pub first_in : ℕ → Stmt → Option ℕ
     first_in m (for_ h a s) = option_or (unless_canonical (canonical ds (forget_head h)) s.start) (first_among (m - 1) a)
     first_in m (block a s) = first_among m a
-    first_in m (omp d a s) = first_taken m d a
+    first_in m (omp d a s) = first_among (loops_asked (plan_of ds (forget_directive d)) m) a
     first_in m _ = None
-
-    -- in what a directive takes of which a directive round it wants m loops, 0 where none does
-    pub first_taken : ℕ → Directive → Stmts → Option ℕ
-    first_taken m d a = first_among (loops_asked (plan_of ds (forget_directive d)) m) a
 
     pub first_among : ℕ → Stmts → Option ℕ
     first_among zero as' = None
     first_among (suc m) no_stmts = None
     first_among (suc m) (more_stmts a as') = option_or (first_in (suc m) a) (first_among (suc m) as')
+
+  -- in what a directive takes of which a directive round it wants m loops, 0 where none does
+  abbrev pub first_taken : ℕ → Directive → Stmts → Option ℕ
+  first_taken m d a = first_among (loops_asked (plan_of ds (forget_directive d)) m) a
 
   -- the word `for` of the first loop that isn't canonical, of those that are affected where m loops are wanted
   abbrev pub first_unlike : ℕ → Stmt → Option ℕ
