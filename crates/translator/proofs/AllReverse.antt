@@ -1,6 +1,5 @@
 -- Where nothing is unbuilt, all directives and items are `reverse`; and where there is no directive, nothing is unbuilt.
-use Rattle.std.proofs.Common.{◌≡◌, refl, sym, subst, ℕ, true, Option, Some, None, ◌&&◌, [], ◌∷◌}
-use Rattle.std.specs.Option.{option_or}
+use Rattle.std.proofs.Common.{◌≡◌, refl, sym, subst, true, None, [], ◌∷◌}
 use Rattle.c_tree.specs.Placed.{Directive, directive, Clauses, no_clauses, more_clauses, clause, sizes, permutation, counts, looprange, full, partial, apply, Items, no_items, more_items, Item, nothing, acts, Stmt, decl, set, step, print, input, if_, if_else, while_, do_, for_, block, break_, continue_, empty, omp, call, Stmts, no_stmts, more_stmts, define, extern_, global, function, main, Program}
 use Rattle.c_tree.specs.BareOf.{bare_program}
 use Rattle.c_tree.specs.PlacedOf.{placed_program}
@@ -9,7 +8,7 @@ use Rattle.c_tree.specs.Forget.{forget_directive, forget_clauses, forget_items, 
 use Rattle.c_tree.specs.declared.tree.Kind.TheVariants.{Tile, Unroll, Interchange, Reverse, Split, Fuse}
 use Rattle.canonical_nests.specs.LoopRules.Programs.{stmt_directive, stmts_directive, first_directive}
 use Rattle.carried_out.specs.AllReverse.{is_reverse, clauses_reverse, items_reverse, item_reverses, reverses_only, all_reverse_only, all_reverse}
-use Rattle.carried_out.proofs.Tests.{both_true}
+use Rattle.std.proofs.lemmas.Bool.{and_from}
 use Rattle.translator.proofs.Plain.{both_none, neither}
 use Rattle.translator.specs.Unbuilt.{directive_unbuilt, clauses_unbuilt, items_unbuilt, item_unbuilt, stmt_unbuilt, stmts_unbuilt, first_unbuilt}
 
@@ -26,7 +25,7 @@ mutual
   clauses_reverses no_clauses e = refl
   clauses_reverses (more_clauses (clause (apply m es is) at) cs) e =
       let none = both_none (items_unbuilt is) (clauses_unbuilt cs) e in
-      both_true (items_reverse (forget_items is)) (clauses_reverse (forget_clauses cs)) (items_all_reverse is none.0) (clauses_reverses cs none.1)
+      and_from (items_reverse (forget_items is)) (clauses_reverse (forget_clauses cs)) (items_all_reverse is none.0) (clauses_reverses cs none.1)
   clauses_reverses (more_clauses (clause (sizes es) at) cs) e = clauses_reverses cs e
   clauses_reverses (more_clauses (clause (permutation es) at) cs) e = clauses_reverses cs e
   clauses_reverses (more_clauses (clause (counts ks) at) cs) e = clauses_reverses cs e
@@ -38,7 +37,7 @@ mutual
   items_all_reverse no_items e = refl
   items_all_reverse (more_items i is) e =
       let none = both_none (item_unbuilt i) (items_unbuilt is) e in
-      both_true (item_reverses (forget_item i)) (items_reverse (forget_items is)) (item_all_reverses i none.0) (items_all_reverse is none.1)
+      and_from (item_reverses (forget_item i)) (items_reverse (forget_items is)) (item_all_reverses i none.0) (items_all_reverse is none.1)
 
   item_all_reverses : (i : Item) → item_unbuilt i ≡ None → item_reverses (forget_item i) ≡ true
   item_all_reverses (nothing at) e = refl
@@ -58,20 +57,20 @@ mutual
   stmt_reverses (if_ v a s) e = stmts_reverse a e
   stmt_reverses (if_else v a b s) e =
       let none = both_none (stmts_unbuilt a) (stmts_unbuilt b) e in
-      both_true (all_reverse_only (forget_stmts a)) (all_reverse_only (forget_stmts b)) (stmts_reverse a none.0) (stmts_reverse b none.1)
+      and_from (all_reverse_only (forget_stmts a)) (all_reverse_only (forget_stmts b)) (stmts_reverse a none.0) (stmts_reverse b none.1)
   stmt_reverses (while_ v a s) e = stmts_reverse a e
   stmt_reverses (do_ a v s) e = stmts_reverse a e
   stmt_reverses (for_ h a s) e = stmts_reverse a e
   stmt_reverses (block a s) e = stmts_reverse a e
   stmt_reverses (omp d a s) e =
       let none = both_none (directive_unbuilt d) (stmts_unbuilt a) e in
-      both_true (is_reverse (forget_directive d)) (all_reverse_only (forget_stmts a)) (directive_reverses d none.0) (stmts_reverse a none.1)
+      and_from (is_reverse (forget_directive d)) (all_reverse_only (forget_stmts a)) (directive_reverses d none.0) (stmts_reverse a none.1)
 
   stmts_reverse : (as' : Stmts) → stmts_unbuilt as' ≡ None → all_reverse_only (forget_stmts as') ≡ true
   stmts_reverse no_stmts e = refl
   stmts_reverse (more_stmts a as') e =
       let none = both_none (stmt_unbuilt a) (stmts_unbuilt as') e in
-      both_true (reverses_only (forget_stmt a)) (all_reverse_only (forget_stmts as')) (stmt_reverses a none.0) (stmts_reverse as' none.1)
+      and_from (reverses_only (forget_stmt a)) (all_reverse_only (forget_stmts as')) (stmt_reverses a none.0) (stmts_reverse as' none.1)
 
 pub nothing_unbuilt : (p : Program) → first_unbuilt p ≡ None → all_reverse (forget_program p) ≡ true
 nothing_unbuilt [] e = refl
@@ -80,10 +79,10 @@ nothing_unbuilt (extern_ port at ∷ is) e = nothing_unbuilt is e
 nothing_unbuilt (global t x at dims v ∷ is) e = nothing_unbuilt is e
 nothing_unbuilt (function x at ps a s ∷ is) e =
     let none = both_none (stmts_unbuilt a) (first_unbuilt is) e in
-    both_true (all_reverse_only (forget_stmts a)) (all_reverse (forget_program is)) (stmts_reverse a none.0) (nothing_unbuilt is none.1)
+    and_from (all_reverse_only (forget_stmts a)) (all_reverse (forget_program is)) (stmts_reverse a none.0) (nothing_unbuilt is none.1)
 nothing_unbuilt (main a s ∷ is) e =
     let none = both_none (stmts_unbuilt a) (first_unbuilt is) e in
-    both_true (all_reverse_only (forget_stmts a)) (all_reverse (forget_program is)) (stmts_reverse a none.0) (nothing_unbuilt is none.1)
+    and_from (all_reverse_only (forget_stmts a)) (all_reverse (forget_program is)) (stmts_reverse a none.0) (nothing_unbuilt is none.1)
 
 -- so are those of a program with places, where its bare tree is what is left of it
 pub built_reverses : (source : code.Program) → bare_program source ≡ forget_program (placed_program source) → first_unbuilt (placed_program source) ≡ None

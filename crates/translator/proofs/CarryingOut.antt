@@ -20,7 +20,7 @@ use Rattle.canonical_nests.specs.LoopRules.Programs.{first_directive}
 use Rattle.loop_normal.specs.DrawnNames.{FreshNames}
 use Rattle.carried_out.specs.CarriedOut.{in_head, carried, carried_all, carried_items, carried_out}
 use Rattle.carried_out.specs.SourceNames.{beside_program}
-use Rattle.carried_out.proofs.Tests.{left_true, right_true, both_true}
+use Rattle.std.proofs.lemmas.Bool.{and_parts, and_from}
 use Rattle.apply_rewrite.specs.NoDirectives.{NoDirective, NoDirectives, NoDirectiveIf, HoldsNoDirective}
 use Rattle.translator.specs.Answers.{IsBuilt, StandsFor, CarriesOut}
 use Rattle.translator.proofs.AllReverse.{built_reverses}
@@ -32,10 +32,10 @@ use Rattle.translator.proofs.Plain.{plain_program}
 mutual
   plain_stmt : (a : Stmt) → NoDirective a → is_plain_stmt a ≡ true
   plain_stmt (if_ e a) h = plain_stmts a h
-  plain_stmt (if_else e a b) h = both_true _ _ (plain_stmts a h.0) (plain_stmts b h.1)
+  plain_stmt (if_else e a b) h = and_from _ _ (plain_stmts a h.0) (plain_stmts b h.1)
   plain_stmt (while_ e a) h = plain_stmts a h
   plain_stmt (do_ a e) h = plain_stmts a h
-  plain_stmt (for_ (head i e next) a) h = both_true _ _ (both_true _ _ (plain_part i h.0) (plain_part next h.1)) (plain_stmts a h.2)
+  plain_stmt (for_ (head i e next) a) h = and_from _ _ (and_from _ _ (plain_part i h.0) (plain_part next h.1)) (plain_stmts a h.2)
   plain_stmt (block a) h = plain_stmts a h
   plain_stmt (omp d a) h = absurd h
   plain_stmt (decl t x e) h = refl
@@ -50,7 +50,7 @@ mutual
 
   plain_stmts : (a : Stmts) → NoDirectives a → are_plain_stmts a ≡ true
   plain_stmts no_stmts h = refl
-  plain_stmts (more_stmts a as') h = both_true _ _ (plain_stmt a h.0) (plain_stmts as' h.1)
+  plain_stmts (more_stmts a as') h = and_from _ _ (plain_stmt a h.0) (plain_stmts as' h.1)
 
   plain_part : (i : MaybeStmt) → NoDirectiveIf i → is_plain_part i ≡ true
   plain_part no_stmt h = refl
@@ -61,8 +61,8 @@ holds_none [] h = refl
 holds_none (define x minus k t ∷ is) h = holds_none is h
 holds_none (extern_ port ∷ is) h = holds_none is h
 holds_none (global t x dims e ∷ is) h = holds_none is h
-holds_none (function x ps a ∷ is) h = both_true _ _ (plain_stmts a h.0) (holds_none is h.1)
-holds_none (main a ∷ is) h = both_true _ _ (plain_stmts a h.0) (holds_none is h.1)
+holds_none (function x ps a ∷ is) h = and_from _ _ (plain_stmts a h.0) (holds_none is h.1)
+holds_none (main a ∷ is) h = and_from _ _ (plain_stmts a h.0) (holds_none is h.1)
 
 -- ---- a plain program stays as it is
 
@@ -71,11 +71,11 @@ module _ (ds : List Define) where
     stmt_stays : (s : State) (a : Stmt) (f : FreshNames) → is_plain_stmt a ≡ true → (carried ds s a f).tree ≡ a
     stmt_stays s (if_ e a) f h = ap (if_ e) (stmts_stay s a f h)
     stmt_stays s (if_else e a b) f h =
-        ap (λ c. if_else e c (carried_all ds s b (carried_all ds s a f).left).tree) (stmts_stay s a f (left_true (are_plain_stmts a) (are_plain_stmts b) h))
-        ∙ ap (if_else e a) (stmts_stay s b (carried_all ds s a f).left (right_true (are_plain_stmts a) (are_plain_stmts b) h))
+        ap (λ c. if_else e c (carried_all ds s b (carried_all ds s a f).left).tree) (stmts_stay s a f (and_parts (are_plain_stmts a) (are_plain_stmts b) h).0)
+        ∙ ap (if_else e a) (stmts_stay s b (carried_all ds s a f).left (and_parts (are_plain_stmts a) (are_plain_stmts b) h).1)
     stmt_stays s (while_ e a) f h = ap (while_ e) (stmts_stay s a f h)
     stmt_stays s (do_ a e) f h = ap (λ b. do_ b e) (stmts_stay s a f h)
-    stmt_stays s (for_ i a) f h = ap (for_ i) (stmts_stay (in_head i s) a f (right_true (is_plain_head i) (are_plain_stmts a) h))
+    stmt_stays s (for_ i a) f h = ap (for_ i) (stmts_stay (in_head i s) a f (and_parts (is_plain_head i) (are_plain_stmts a) h).1)
     stmt_stays s (block a) f h = ap block (stmts_stay s a f h)
     stmt_stays s (omp d a) f h = cc
     stmt_stays s (decl t x e) f h = refl
@@ -91,8 +91,8 @@ module _ (ds : List Define) where
     stmts_stay : (s : State) (a : Stmts) (f : FreshNames) → are_plain_stmts a ≡ true → (carried_all ds s a f).tree ≡ a
     stmts_stay s no_stmts f h = refl
     stmts_stay s (more_stmts a as') f h =
-        ap (λ b. more_stmts b (carried_all ds (scope_after a s) as' (carried ds s a f).left).tree) (stmt_stays s a f (left_true (is_plain_stmt a) (are_plain_stmts as') h))
-        ∙ ap (more_stmts a) (stmts_stay (scope_after a s) as' (carried ds s a f).left (right_true (is_plain_stmt a) (are_plain_stmts as') h))
+        ap (λ b. more_stmts b (carried_all ds (scope_after a s) as' (carried ds s a f).left).tree) (stmt_stays s a f (and_parts (is_plain_stmt a) (are_plain_stmts as') h).0)
+        ∙ ap (more_stmts a) (stmts_stay (scope_after a s) as' (carried ds s a f).left (and_parts (is_plain_stmt a) (are_plain_stmts as') h).1)
 
 items_stay : (ds : List Define) (s : State) (p : Program) (f : FreshNames) → is_plain p ≡ true → (carried_items ds s p f).tree ≡ p
 items_stay ds s [] f h = refl
@@ -102,13 +102,13 @@ items_stay ds s (global t x dims e ∷ is) f h = ap (λ js. global t x dims e �
 items_stay ds s (function x ps a ∷ is) f h =
     let m = carried_all ds (with_params ps s) a f in
     let i = function x ps a in
-    ap (λ b. function x ps b ∷ (carried_items (defines_with ds i) (scope_with s i) is m.left).tree) (stmts_stay ds (with_params ps s) a f (left_true (are_plain_stmts a) (is_plain is) h))
-    ∙ ap (λ js. i ∷ js) (items_stay (defines_with ds i) (scope_with s i) is m.left (right_true (are_plain_stmts a) (is_plain is) h))
+    ap (λ b. function x ps b ∷ (carried_items (defines_with ds i) (scope_with s i) is m.left).tree) (stmts_stay ds (with_params ps s) a f (and_parts (are_plain_stmts a) (is_plain is) h).0)
+    ∙ ap (λ js. i ∷ js) (items_stay (defines_with ds i) (scope_with s i) is m.left (and_parts (are_plain_stmts a) (is_plain is) h).1)
 items_stay ds s (main a ∷ is) f h =
     let m = carried_all ds s a f in
     let i = main a in
-    ap (λ b. main b ∷ (carried_items (defines_with ds i) (scope_with s i) is m.left).tree) (stmts_stay ds s a f (left_true (are_plain_stmts a) (is_plain is) h))
-    ∙ ap (λ js. i ∷ js) (items_stay (defines_with ds i) (scope_with s i) is m.left (right_true (are_plain_stmts a) (is_plain is) h))
+    ap (λ b. main b ∷ (carried_items (defines_with ds i) (scope_with s i) is m.left).tree) (stmts_stay ds s a f (and_parts (are_plain_stmts a) (is_plain is) h).0)
+    ∙ ap (λ js. i ∷ js) (items_stay (defines_with ds i) (scope_with s i) is m.left (and_parts (are_plain_stmts a) (is_plain is) h).1)
 
 plain_stays : (p : Program) → is_plain p ≡ true → carried_out p ≡ p
 plain_stays p h = items_stay [] nowhere p (beside_program p) h

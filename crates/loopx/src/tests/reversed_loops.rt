@@ -1,6 +1,6 @@
 //! Texts whose directives are all `reverse`: they run as their order says, and so do their translations.
 
-use super::{Answer, answer_at_once, word_list};
+use super::{Answer, answer_at_once, in_main, word_list};
 use crate::status::Status;
 use std::alloc::{AllocError, Global};
 use std::process::Abort;
@@ -10,7 +10,7 @@ use std::test::Fail;
 type Row = (&'static str, &'static str, &'static str);
 
 /// Heads of reversed loops that print their variable.
-const HEADS: [Row; 33] = [
+const HEADS: [Row; 34] = [
     ("int i = 0; i < 4; ++i", "3\n2\n1\n0\n", ""),
     ("int i = 1; i <= 4; i++", "4\n3\n2\n1\n", ""),
     ("int i = 4; i > 0; i--", "1\n2\n3\n4\n", ""),
@@ -39,6 +39,11 @@ const HEADS: [Row; 33] = [
     (
         "int i = -2147483647; i >= -2147483647 - 1; i--",
         "-2147483648\n-2147483647\n",
+        "",
+    ),
+    (
+        "int i = -2147483647 - 1; i <= 2147483647; i += 1073741824",
+        "1073741824\n0\n-1073741824\n-2147483648\n",
         "",
     ),
     (
@@ -97,7 +102,7 @@ const HEADS: [Row; 33] = [
 ];
 
 /// Where reversed loops may stand, and what may stand in them.
-const PLACES: [Row; 20] = [
+const PLACES: [Row; 21] = [
     (
         "#pragma omp reverse\n#pragma omp reverse\nfor (int i = 0; i < 3; i++) print(i);",
         "0\n1\n2\n",
@@ -173,6 +178,11 @@ const PLACES: [Row; 20] = [
         "int n = input();\n#pragma omp reverse\nfor (int i = 0; i < n; i++) { int x = input(); print(10 * i + x); }",
         "24\n15\n",
         "trap InputEnd\n",
+    ),
+    (
+        "print(1);\n#pragma omp reverse\nfor (long long i = -9223372036854775807LL - 1LL; i <= 9223372036854775807LL; i++) print(i);",
+        "1\n",
+        "trap Overflow\n",
     ),
     (
         "print(7);\n#pragma omp reverse\nfor (int i = 0; i < 3; i++) { print(i); if (i == 1) zero = 1 / zero; }",
@@ -292,10 +302,15 @@ const ITEMS: [Row; 18] = [
 ];
 
 /// Loops over a variable that stands outside, and what it is worth afterwards.
-const OUTER: [Row; 12] = [
+const OUTER: [Row; 13] = [
     (
         "int i = 9;\n#pragma omp reverse\nfor (i = 0; i < 3; i++) print(i);\nprint(i);",
         "2\n1\n0\n9\n",
+        "",
+    ),
+    (
+        "int omp_t0 = 9; int i = 9;\n#pragma omp reverse\nfor (i = 0; i < 2; i++) print(i + omp_t0);\nprint(i);",
+        "10\n9\n9\n",
         "",
     ),
     (
@@ -434,6 +449,27 @@ fn items_act_on_reversed_loops(rt: HostRuntime) -> Result<(), Fail> {
 #[test]
 fn loops_have_their_own_copy_of_a_variable(rt: HostRuntime) -> Result<(), Fail> {
     pieces_run_as_translated(&rt, rt.alloc(), &OUTER)
+}
+
+/// A loop under so many directives.
+fn under(alloc: Global, directives: usize) -> Result<String, AllocError> {
+    let mut lines = String::new(alloc);
+    for _ in 0..directives {
+        lines.push_str("#pragma omp reverse\n")?;
+    }
+    lines.push_str("for (int i = 0; i < 5; i++) print(i);")?;
+    in_main(alloc, lines.as_str())
+}
+
+/// The result of 18 has height 256.
+#[test]
+fn reverses_a_loop_up_to_18_times(rt: HostRuntime) -> Result<(), Fail> {
+    let most = under(rt.alloc(), 18)?;
+    let row = ("18 directives", "0\n1\n2\n3\n4\n", "");
+    runs_as_translated(&rt, rt.alloc(), most.as_bytes(), &row)?;
+    let more = under(rt.alloc(), 19)?;
+    let row = ("19 directives", "", "3:13: L26 result too deep\n");
+    runs(&rt, rt.alloc(), more.as_bytes(), &row)
 }
 
 #[test]
