@@ -2,7 +2,6 @@
 use Rattle.std.proofs.Common.{◌≡◌, ℕ, List, ℤ, true, [], ◌∷◌, None, refl, sym, ◌∙◌, ap, subst}
 use Rattle.c_tree.specs.Bare.{Stmt, decl, set, step, print, input, if_, if_else, while_, do_, for_, block, break_, continue_, empty, omp, call, Stmts, no_stmts, more_stmts, head, MaybeStmt, no_stmt, a_stmt, define, extern_, global, function, main, Program}
 use Rattle.c_tree.specs.BareOf.{bare_program}
-use Rattle.c_tree.specs.Placed as placed
 use Rattle.c_tree.specs.PlacedOf.{placed_program}
 use Rattle.c_tree.specs.Checked.{IsChecked}
 use Rattle.c_tree.specs.Forget.{forget_program}
