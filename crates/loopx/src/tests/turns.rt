@@ -1,7 +1,5 @@
 //! How many turns of `for` loops the translation of a text takes, beside what it prints.
 
-ghost use Rattle.std.specs.Prelude.{◌<◌, ◌^◌, length};
-
 use super::in_main;
 use c_meaning::directives::holds_no_directive;
 use c_meaning::interpret::interpret;
