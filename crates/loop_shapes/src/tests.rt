@@ -2,8 +2,9 @@
 
 ghost use Rattle.std.specs.Prelude.{◌≡◌, ◌<◌, ◌^◌, [], ◌∷◌, IfOk};
 ghost use Rattle.std.specs.Option.{option_map};
-ghost use Rattle.c_tree.specs.BareOf.{bare_clauses, bare_expr, bare_head, bare_program, bare_stmt, bare_stmts};
-ghost use Rattle.c_tree.specs.WellFormed.{IsName, WellFormedClauses, WellFormedExpr, WellFormedHead, WellFormedOption, WellFormedStmt, WellFormedStmts, WellFormedTops};
+ghost use Rattle.c_tree.specs.Bare.{a_stmt};
+ghost use Rattle.c_tree.specs.BareOf.{bare_clauses, bare_expr, bare_head, bare_program, bare_stmt, bare_stmts, bare_target, maybe_stmt};
+ghost use Rattle.c_tree.specs.WellFormed.{IsName, MayBegin, MayEnd, WellFormedClauses, WellFormedExpr, WellFormedHead, WellFormedOption, WellFormedPart, WellFormedStmt, WellFormedStmts, WellFormedTarget, WellFormedTops};
 
 use crate::seen::Seen;
 use crate::shape::shape;
@@ -54,7 +55,9 @@ fn literal(value: u64) -> Expr
     }
 }
 
-fn target(alloc: Global) -> Result<Target, AllocError> {
+fn target(alloc: Global) -> Result<Target, AllocError>
+    ensures { IfOk result (λ target. WellFormedTarget (bare_target target)) }
+{
     Ok(Target {
         name: i(alloc)?,
         subs: Items::new(alloc),
@@ -82,42 +85,67 @@ fn test(alloc: Global) -> Result<Expr, AllocError>
     })
 }
 
-// i = 0; test; i++
-fn head(alloc: Global, test: Option<Expr>) -> Result<ForHead, AllocError>
-    requires { WellFormedOption (option_map bare_expr test) }
-    ensures { IfOk result (λ head. WellFormedHead (bare_head head)) }
+// i = 0
+fn first(alloc: Global) -> Result<Boxed<Stmt>, AllocError>
+    ensures { IfOk result (λ first. MayBegin (a_stmt (bare_stmt first)) × WellFormedStmt (bare_stmt first)) }
 {
-    let init = Stmt::Set {
+    let set = Stmt::Set {
         target: target(alloc)?,
         op: SetOp::Plain,
         value: literal(0),
         span: SPAN,
     };
+    Boxed::new(alloc, set)
+}
+
+// i++
+fn next(alloc: Global) -> Result<Boxed<Stmt>, AllocError>
+    ensures { IfOk result (λ next. MayEnd (a_stmt (bare_stmt next)) × WellFormedStmt (bare_stmt next)) }
+{
     let step = Stmt::Step {
         target: target(alloc)?,
         up: true,
         span: SPAN,
     };
-    Ok(ForHead {
-        init: Some(Boxed::new(alloc, init)?),
+    Boxed::new(alloc, step)
+}
+
+fn head(init: Option<Boxed<Stmt>>, test: Option<Expr>, step: Option<Boxed<Stmt>>) -> ForHead
+    requires init { MayBegin (maybe_stmt (option_map bare_stmt init)) × WellFormedPart (maybe_stmt (option_map bare_stmt init)) }
+    requires test { WellFormedOption (option_map bare_expr test) }
+    requires step { MayEnd (maybe_stmt (option_map bare_stmt step)) × WellFormedPart (maybe_stmt (option_map bare_stmt step)) }
+    ensures { WellFormedHead (bare_head result) }
+{
+    ForHead {
+        init,
         init_at: 4,
         test,
         test_at: 5,
-        step: Some(Boxed::new(alloc, step)?),
+        step,
         step_at: 6,
-    })
+    }
 }
 
-// for (i = 0; test; i++) ;
-fn for_loop(alloc: Global, test: Option<Expr>) -> Result<Stmt, AllocError>
-    requires { WellFormedOption (option_map bare_expr test) }
-    ensures { IfOk result (λ stmt. WellFormedStmt (bare_stmt stmt)) }
+// i = 0; i < n; i++
+fn counting(alloc: Global) -> Result<ForHead, AllocError>
+    ensures { IfOk result (λ head. WellFormedHead (bare_head head)) }
 {
-    Ok(Stmt::For {
-        head: head(alloc, test)?,
-        body: one(alloc, Stmt::Empty { span: SPAN })?,
+    let init = first(alloc)?;
+    let step = next(alloc)?;
+    let test = test(alloc)?;
+    Ok(head(Some(init), Some(test), Some(step)))
+}
+
+// for (head) { }
+fn for_loop(alloc: Global, head: ForHead) -> Stmt
+    requires { WellFormedHead (bare_head head) }
+    ensures { WellFormedStmt (bare_stmt result) }
+{
+    Stmt::For {
+        head,
+        body: StmtList::new(alloc),
         span: LOOP,
-    })
+    }
 }
 
 fn with_directive(kind: Kind, clauses: ClauseList, body: StmtList) -> Stmt
@@ -136,21 +164,37 @@ fn with_directive(kind: Kind, clauses: ClauseList, body: StmtList) -> Stmt
     }
 }
 
-// #pragma omp tile sizes(2)
-fn tiled(alloc: Global, stmt: Stmt) -> Result<Stmt, AllocError>
-    requires { WellFormedStmt (bare_stmt stmt) }
-    ensures { IfOk result (λ s. WellFormedStmt (bare_stmt s)) }
+// sizes(2)
+fn sizes(alloc: Global) -> Result<ClauseList, AllocError>
+    ensures { IfOk result (λ clauses. WellFormedClauses (bare_clauses clauses)) }
 {
     let kind = ClauseKind::Sizes(one(alloc, literal(2))?);
-    let clauses = one(alloc, Clause { kind, span: SPAN })?;
-    Ok(with_directive(Kind::Tile, clauses, one(alloc, stmt)?))
+    one(alloc, Clause { kind, span: SPAN })
 }
 
-// #pragma omp reverse, before a block that is empty
-fn reversed_nothing(alloc: Global) -> Stmt
+// #pragma omp tile sizes(2), before for (i = 0; i < n; i++) { }
+fn tiled(alloc: Global) -> Result<Stmt, AllocError>
+    ensures { IfOk result (λ stmt. WellFormedStmt (bare_stmt stmt)) }
+{
+    let body = one(alloc, for_loop(alloc, counting(alloc)?))?;
+    let clauses = sizes(alloc)?;
+    Ok(with_directive(Kind::Tile, clauses, body))
+}
+
+// #pragma omp reverse
+fn reversed(alloc: Global, body: StmtList) -> Stmt
+    requires { WellFormedStmts (bare_stmts body) }
     ensures { WellFormedStmt (bare_stmt result) }
 {
-    with_directive(Kind::Reverse, ClauseList::new(alloc), StmtList::new(alloc))
+    with_directive(Kind::Reverse, ClauseList::new(alloc), body)
+}
+
+// #pragma omp reverse, before for (;;) { }
+fn reversed_endless(alloc: Global) -> Result<Stmt, AllocError>
+    ensures { IfOk result (λ stmt. WellFormedStmt (bare_stmt stmt)) }
+{
+    let endless = for_loop(alloc, head(None, None, None));
+    Ok(reversed(alloc, one(alloc, endless)?))
 }
 
 // #define n 5
@@ -186,15 +230,17 @@ fn answer(alloc: Global, stmt: &Stmt) -> Result<String, Fail>
 #[test]
 fn a_statement_has_a_shape_or_a_fault(rt: HostRuntime) -> Result<(), Fail> {
     let alloc = rt.alloc();
-    let tiled_loop = tiled(alloc, for_loop(alloc, Some(test(alloc)?))?)?;
-    let tiled_unlike = tiled(alloc, for_loop(alloc, None)?)?;
+    let nothing = reversed(alloc, StmtList::new(alloc));
     let rows = [
         (
-            answer(alloc, &tiled_loop)?,
+            answer(alloc, &tiled(alloc)?)?,
             "Ok(Shape { parts: [PartShape { loops: [Known(3), Depends(Items { items: [1] })] }] })",
         ),
-        (answer(alloc, &reversed_nothing(alloc))?, "Err(NoShape(20))"),
-        (answer(alloc, &tiled_unlike)?, "Err(NotCanonical(40))"),
+        (answer(alloc, &nothing)?, "Err(NoShape(20))"),
+        (
+            answer(alloc, &reversed_endless(alloc)?)?,
+            "Err(NotCanonical(40))",
+        ),
     ];
     for (found, wanted) in rows {
         assert_eq!(rt; found.as_str(), wanted);
