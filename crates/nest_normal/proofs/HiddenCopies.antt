@@ -36,7 +36,7 @@ abbrev others : List Name → List Name
 others [] = []
 others (y ∷ ys) = ys
 
-pub name_count : (l : List Var) → length (names l) ≡ length l
+name_count : (l : List Var) → length (names l) ≡ length l
 name_count [] = refl
 name_count (w ∷ l) = ap suc (name_count l)
 

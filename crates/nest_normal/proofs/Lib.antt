@@ -8,6 +8,3 @@ pub mod KnownCount
 pub mod CountedWithin
 pub mod HiddenNames
 pub mod Shown
-pub mod Lists
-pub mod Assembled
-pub mod Depths

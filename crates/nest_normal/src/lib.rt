@@ -1,7 +1,4 @@
 //! The normal form of a nest of loops, and loops of a known count.
 #![tactic(auto)]
 
-pub mod known_count;
 pub mod laws;
-pub mod round;
-mod variables;
