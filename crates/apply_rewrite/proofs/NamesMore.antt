@@ -59,6 +59,3 @@ module _ (P Q : Name → Type 0) (more : (x : Name) → P x → Q x) where
   -- of a head
   abbrev pub HeadUses : (Name → Type 0) → Head → Type 0
   HeadUses R (head i e next) = UsesIf R AnyCall i × NamesIf R e × UsesIf R AnyCall next
-
-  pub head_more : (h : Head) → HeadUses P h → HeadUses Q h
-  head_more (head i e next) u = (part_more i u.0, if_more e u.1, part_more next u.2)

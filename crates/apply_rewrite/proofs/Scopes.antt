@@ -3,7 +3,7 @@ use Rattle.std.proofs.Common.{◌≡◌, ◌∙◌, sym, ap, refl, ℕ, zero, su
 use Rattle.std.proofs.lemmas.List.{reverse-append, length-append, length-reverse, length-drop, take-append-drop, take_all, take_more, map-append}
 use Rattle.std.proofs.Math.Seq.{drop-append_seam}
 use Rattle.std.specs.Prelude.{bytes_eq, is_some, if◌then◌else◌, slice_index_or, Option, Some, None}
-use Rattle.c_tree.specs.Bare.{Name, Stmt, decl, Stmts, no_stmts, more_stmts, Head, head, no_stmt, a_stmt, Param}
+use Rattle.c_tree.specs.Bare.{Name, Stmt, decl, Stmts, no_stmts, more_stmts, Param}
 use Rattle.c_tree.specs.declared.tree.Ty.{Ty}
 use Rattle.c_tree.specs.BareOf.{bare_param}
 use Rattle.c_tree.specs.declared.tree.Param as code
@@ -11,8 +11,6 @@ use Rattle.c_tree.proofs.Walks.{rest_more, rest_none}
 use Rattle.c_semantics.specs.Meaning.State.{scalar, Cell, Var, State, find, look, or_else, keep, push, with_frame, with_globals}
 use Rattle.c_semantics.specs.Structure.Skeleton.{scope_after}
 use Rattle.c_scopes.specs.Types.{type_held, type_filed, with_params}
-use Rattle.loop_normal.specs.Templates.{SourceLoop}
-use Rattle.carried_out.specs.CarriedOut.{in_head, scope_below}
 use Rattle.apply_rewrite.specs.ScopeOf.{variable_of, with_global}
 use Rattle.apply_rewrite.specs.declared.scope.Variable.{Variable}
 
@@ -135,14 +133,6 @@ above_after : (a : Stmt) (s : State) → Above s (scope_after a s)
 above_after (decl t x e) s = above_pushed x (scalar t None) s
 above_after a s = above_self s
 
-above_head : (h : Head) (s : State) → Above s (in_head h s)
-above_head (head no_stmt e next) s = above_self s
-above_head (head (a_stmt a) e next) s = above_after a s
-
-above_loop : (o : Option SourceLoop) (s : State) → Above s (scope_below s o)
-above_loop None s = above_self s
-above_loop (Some l) s = above_pushed l.var (scalar l.ty None) s
-
 above_params : (ps : List Param) (s : State) → Above s (with_params ps s)
 above_params [] s = above_self s
 above_params (p ∷ ps) s =
@@ -165,19 +155,13 @@ dropped s u k h e =
     ap (λ z. with_frame (keep k z.frame) z) h.1
     ∙ ap (λ l. with_frame l s) (ap (λ n. drop n (h.0 ++ s.frame)) over ∙ drop-append_seam h.0 s.frame)
 
-pub out_of_head : (h : Head) (s : State) (k : ℕ) → k ≡ length s.frame → with_frame (keep k (in_head h s).frame) (in_head h s) ≡ s
-out_of_head h s k e = dropped s (in_head h s) k (above_head h s) e
-
-pub out_of_loop : (o : Option SourceLoop) (s : State) (k : ℕ) → k ≡ length s.frame → with_frame (keep k (scope_below s o).frame) (scope_below s o) ≡ s
-out_of_loop o s k e = dropped s (scope_below s o) k (above_loop o s) e
-
 pub out_of_function : (ps : List Param) (s : State) (k : ℕ) → k ≡ length s.frame → with_frame (keep k (with_params ps s).frame) (with_params ps s) ≡ s
 out_of_function ps s k e = dropped s (with_params ps s) k (above_params ps s) e
 
 pub out_of_list : (as' : Stmts) (s u : State) (k : ℕ) → u ≡ all_after as' s → k ≡ length s.frame → with_frame (keep k u.frame) u ≡ s
 out_of_list as' s u k is e = ap (λ z. with_frame (keep k z.frame) z) is ∙ dropped s (all_after as' s) k (above_all as' s) e
 
-pub ruleset leaving = (out_of_head, out_of_loop, out_of_function, out_of_list)
+pub ruleset leaving = (out_of_function)
 
 -- ---- parameters
 

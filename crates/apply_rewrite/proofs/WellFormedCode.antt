@@ -186,9 +186,6 @@ typed_well s (Some c) h = by (variable_type s c.ty c.var)
 
 -- ---- generated code
 
-small : (k : ℕ) → k < 2 ^ 63 → WellFormedExpr (ll k)
-small k h = h
-
 one_held : IsHeld Long 1
 one_held = lit< tt
 
