@@ -55,7 +55,3 @@ module _ (P Q : Name → Type 0) (more : (x : Name) → P x → Q x) where
     pub part_more : (a : MaybeStmt) → UsesIf P AnyCall a → UsesIf Q AnyCall a
     part_more no_stmt h = tt
     part_more (a_stmt a) h = uses_more a h
-
-  -- of a head
-  abbrev pub HeadUses : (Name → Type 0) → Head → Type 0
-  HeadUses R (head i e next) = UsesIf R AnyCall i × NamesIf R e × UsesIf R AnyCall next
