@@ -3,10 +3,9 @@ use Rattle.std.proofs.Common.{◌≡◌, ◌≢◌, refl, sym, ap, ◌∙◌, su
 use denote.Param.Weighed.{most, most-append}
 use Rattle.c_tree.specs.Bare as b
 use Rattle.c_tree.specs.Bare.{more_stmts}
-use Rattle.c_tree.specs.BareOf.{bare_expr, bare_stmt, bare_stmts, stmt_layer, head_layer}
+use Rattle.c_tree.specs.BareOf.{bare_stmt, bare_stmts, stmt_layer, head_layer}
 use Rattle.c_tree.specs.WellFormed.{WellFormedStmt, WellFormedStmts}
 use Rattle.c_tree.specs.declared.tree.Directive.{Directive}
-use Rattle.c_tree.specs.declared.tree.Expr.{Expr}
 use Rattle.c_tree.specs.declared.tree.ForHead.{ForHead}
 use Rattle.c_tree.specs.declared.tree.Span.{Span}
 use Rattle.c_tree.specs.declared.tree.Stmt.{Stmt, Stmt-F, roll-Stmt, out-Stmt, roll-out-Stmt, fold-roll-Stmt}
@@ -24,9 +23,6 @@ use Rattle.carried_out.specs.CarriedOut.{carried, carried_all, nest, nest_in, no
 
 done_more : (done : List Stmt) (y : Stmt) → bare_stmts (done ++ y ∷ []) ≡ join (bare_stmts done) (only (bare_stmt y))
 done_more done y = stmts_join done (y ∷ [])
-
-bare_two : (e : Expr) (ts es : List Stmt) (at : Span) → bare_stmt (v.If e ts (Some es) at) ≡ b.if_else (bare_expr e) (bare_stmts ts) (bare_stmts es)
-bare_two e ts es at = ap bare_stmt (sym (v.rolls-If e ts (Some es) at)) ∙ fold-roll-Stmt b.Stmt b.Head stmt_layer head_layer (layer.If e ts (Some es) at)
 
 -- what is visible after a list and one statement more
 after_more : (xs : List Stmt) (x : Stmt) (s : State) → all_after (bare_stmts (xs ++ x ∷ [])) s ≡ scope_after (bare_stmt x) (all_after (bare_stmts xs) s)
@@ -79,15 +75,6 @@ module _ (ds : List Define) where
     pub scope_step : (w : State) (y : Stmt) → bare_stmt y ≡ (carried ds u (bare_stmt x) g).tree → w ≡ scope_after (bare_stmt y) u → w ≡ all_after (bare_stmts (xs ++ x ∷ [])) s
     scope_step w y one e =
         e ∙ ap (λ a. scope_after a u) one ∙ carried_after u (bare_stmt x) g u ∙ ap (scope_after (bare_stmt x)) seen ∙ sym (after_more xs x s)
-
-  -- an `if` with both branches
-  pub if_both : (s u : State) (stmt : Stmt) (e : Expr) (ts es : List Stmt) (at : Span) (f g : FreshNames) (ts' es' : List Stmt) → u ≡ s →
-      stmt ≡ v.If e ts (Some es) at → bare_stmts ts' ≡ (carried_all ds s (bare_stmts ts) f).tree → g ≡ (carried_all ds s (bare_stmts ts) f).left → bare_stmts es' ≡ (carried_all ds u (bare_stmts es) g).tree →
-      bare_stmt (v.If e ts' (Some es') at) ≡ (carried ds s (bare_stmt stmt) f).tree
-  if_both s u stmt e ts es at f g ts' es' seen is first left second =
-      bare_two e ts' es' at ∙ ap (λ a. b.if_else (bare_expr e) a (bare_stmts es')) first
-      ∙ ap (λ a. b.if_else (bare_expr e) (carried_all ds s (bare_stmts ts) f).tree a) (second ∙ (λ i. (carried_all ds (seen i) (bare_stmts es) (left i)).tree))
-      ∙ ap (λ a. (carried ds s a f).tree) (sym (ap bare_stmt is ∙ bare_two e ts es at))
 
   -- a list that is not one statement leads to no loop
   pub nest_other : (s : State) (xs : List Stmt) (f : FreshNames) → length xs ≢ 1 → nest ds s (bare_stmts xs) f ≡ no_code f

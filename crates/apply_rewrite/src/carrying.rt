@@ -86,23 +86,16 @@ fn carried(
             span,
         } => {
             let yes = carried_all(alloc, defines, scope, yes, fresh)?;
-            match no {
-                None => Ok(Stmt::If {
-                    test,
-                    yes,
-                    no: None,
-                    span,
-                }),
-                Some(no) => {
-                    let no = Some(carried_all(alloc, defines, scope, no, fresh)?);
-                    Ok(Stmt::If {
-                        test,
-                        yes,
-                        no,
-                        span,
-                    })
-                }
-            }
+            let no = match no {
+                None => None,
+                Some(no) => Some(carried_all(alloc, defines, scope, no, fresh)?),
+            };
+            Ok(Stmt::If {
+                test,
+                yes,
+                no,
+                span,
+            })
         }
         Stmt::While { test, body, span } => {
             let body = carried_all(alloc, defines, scope, body, fresh)?;

@@ -4,11 +4,10 @@ use Rattle.std.specs.Vec.Iter.{into_iter_items}
 use denote.Param.Weighed.{most}
 use Rattle.c_semantics.specs.Structure.Skeleton.{scope_after}
 use Rattle.c_tree.specs.BareOf.{bare_program, bare_stmt, bare_stmts}
-use Rattle.c_tree.specs.declared.tree.Stmt.TheVariants as v
 use Rattle.c_tree.proofs.tree.Stmt.TheLaws.{the_size}
 use Rattle.canonical_nests.specs.Canonical.{program_defines}
 use Rattle.apply_rewrite.proofs.Scopes.{out_of_list}
-use Rattle.apply_rewrite.proofs.StatementMore.{if_both, left_step, nest_other, next_no_larger, next_well_formed, next_whole, nowhere, scope_step, tree_step}
+use Rattle.apply_rewrite.proofs.StatementMore.{left_step, nest_other, next_no_larger, next_well_formed, next_whole, nowhere, scope_step, tree_step}
 use Rattle.apply_rewrite.proofs.carrying.+carrying.Goals as goal
 
 pub carried_all-carried-requires : goal.carried_all-carried-requires
@@ -53,11 +52,3 @@ nest_in-returns-in_default-clause-left t c =
 pub carried_all-returns-clause-scope : goal.carried_all-returns-clause-scope
 carried_all-returns-clause-scope t c =
     c.keep.ensures ∙ out_of_list (bare_stmts c.each.yielded) c.args.scope.now c.each.scope c.len-len.result c.each.invariant.scope c.len-len.ensures
-
-pub carried-returns-in_ok-carried_all-in-Some-clause-tree : goal.carried-returns-in_ok-carried_all-in-Some-clause-tree
-carried-returns-in_ok-carried_all-in-Some-clause-tree t c =
-    let i = c.in-If in
-    let first = c.in_ok-yes-in-If in
-    let second = c.in_ok-carried_all-in-Some in
-    if_both (program_defines (bare_program c.args.defines.now)) c.args.scope.now c.carried_all.new.scope c.args.stmt i.test i.yes c.in-Some.no i.span c.args.fresh.now c.carried_all.new.fresh first.yes second.field-0
-    first.ensures.scope (i.is ∙ ap (λ n. v.If i.test i.yes n i.span) c.in-Some.is) first.ensures.tree first.ensures.left second.ensures.tree
