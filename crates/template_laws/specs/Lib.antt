@@ -1,0 +1,4 @@
+pub mod Outlines
+pub mod Directives
+pub mod Forms
+pub mod Heights

@@ -1,0 +1,48 @@
+//! Laws of the templates that the rewrites answer.
+
+ghost use Rattle.template_laws.specs.Outlines.{CountKeepsOutline, LeafShowsOneMore, RebaseKeepsOutline, ReverseKeepsOutline, RoundShowsOneMore};
+ghost use Rattle.template_laws.specs.Directives.{CountAddsNone, LeafAddsNone, RebaseAddsNone, ReverseAddsNone, RoundAddsNone};
+ghost use Rattle.template_laws.specs.Forms.{CountKeepsForm, DrawnAreNames, LeafKeepsForm, RebaseKeepsForm, ReverseKeepsForm, RoundKeepsForm};
+ghost use Rattle.template_laws.specs.Heights.{CountIsLow, LeafIsLow, RebaseIsLow, ReverseIsLow, RoundIsLow};
+
+/// The loops and the leaves that code shows in the order of its text (OpenMP 6.0, 6.4.1: the loops of a canonical loop nest,
+/// and 11: the loops that a loop-transforming construct generates). The normal form of a loop, alone or round a nest, shows
+/// one `for` loop more. Code that is brought to begin at 0, given a known count, or reversed shows what it showed.
+pub fn outlines_kept()
+    ensures leaf { LeafShowsOneMore }
+    ensures round { RoundShowsOneMore }
+    ensures rebase { RebaseKeepsOutline }
+    ensures count { CountKeepsOutline }
+    ensures reverse { ReverseKeepsOutline }
+{}
+
+/// Code made of code that holds no directive holds none (OpenMP 6.0, 11: a construct is replaced by its generated loops).
+pub fn no_directive_added()
+    ensures leaf { LeafAddsNone }
+    ensures round { RoundAddsNone }
+    ensures rebase { RebaseAddsNone }
+    ensures count { CountAddsNone }
+    ensures reverse { ReverseAddsNone }
+{}
+
+/// Code made of well-formed code, and of names, is well formed (C11 A.2). A drawn name is a name (C11 6.4.2.1).
+pub fn form_kept()
+    ensures names { DrawnAreNames }
+    ensures leaf { LeafKeepsForm }
+    ensures round { RoundKeepsForm }
+    ensures rebase { RebaseKeepsForm }
+    ensures count { CountKeepsForm }
+    ensures reverse { ReverseKeepsForm }
+{}
+
+/// How much higher the answer's list may be than what was given. The normal form of a loop is at most 2 higher than its body,
+/// and that of a loop round a nest 5 higher than the nest; both are at most 1 higher than the bounds, or 8 high. A loop
+/// from 0 is at most 1 higher than what it was made of, a new counter for a known count adds at most 1, and a reversal at
+/// most 2, with the loop brought to begin at 0.
+pub fn heights_added()
+    ensures leaf { LeafIsLow }
+    ensures round { RoundIsLow }
+    ensures rebase { RebaseIsLow }
+    ensures count { CountIsLow }
+    ensures reverse { ReverseIsLow }
+{}
