@@ -61,4 +61,4 @@ drawn_name : (f : FreshNames) → AreDecimal f.digits → IsName (drawn f)
 drawn_name f h = numbered_name (drawn_digits f) (drawn_decimal f h)
 
 pub drawn_are_names : (taken : List Name) (j k : ℕ) → IsName (drawn (after_draws k (after_draws j (no_draws taken))))
-drawn_are_names taken j k = drawn_name _ (after_decimal k (after_draws j (no_draws taken)) (after_decimal j (no_draws taken) (lit≤ tt, lit≤ tt, tt)))
+drawn_are_names taken j k = drawn_name (after_draws k (after_draws j (no_draws taken))) (after_decimal k (after_draws j (no_draws taken)) (after_decimal j (no_draws taken) (lit≤ tt, lit≤ tt, tt)))

@@ -53,8 +53,9 @@ module _ (N : Name → Type 0) (E : Expr → Type 0) (K : ℕ → Type 0) (P : S
       let l = has_loop N E K P w ls c a b inner k in
       let two = w.more (let_stmt x a) _ (w.let_of Long x a hx l.from) (w.let_of Long y (bin Sub b (read x)) hy (w.both Sub b (read x) l.to (w.name x hx))) in
       let sum = w.let_of Long c (bin Add (read x) (read r)) l.counter (w.both Add (read x) (read r) (w.name x hx) (w.name r hr)) in
-      loop_has N E K P w _ r (ll 0) (read y) _ (record {
-        lets = join_has N E K P w ls _ l.lets two;
+      let lets = more_stmts (let_stmt x a) (only (let_stmt y (bin Sub b (read x)))) in
+      loop_has N E K P w (join ls lets) r (ll 0) (read y) (put_let (let_stmt c (bin Add (read x) (read r))) inner) (record {
+        lets = join_has N E K P w ls lets l.lets two;
         counter = hr;
         from = w.literal 0 w.zero;
         to = w.name y hy;
@@ -65,7 +66,7 @@ module _ (N : Name → Type 0) (E : Expr → Type 0) (K : ℕ → Type 0) (P : S
   fixed_kept k r small hr (gen_loop ls c a b inner) h =
       let l = has_loop N E K P w ls c a b inner h in
       let sum = w.let_of Long c (bin Add a (read r)) l.counter (w.both Add a (read r) l.from (w.name r hr)) in
-      loop_has N E K P w ls r (ll 0) (ll k) _ (record { lets = l.lets; counter = hr; from = w.literal 0 w.zero; to = w.literal k small; body = let_below _ inner sum l.body })
+      loop_has N E K P w ls r (ll 0) (ll k) (put_let (let_stmt c (bin Add a (read r))) inner) (record { lets = l.lets; counter = hr; from = w.literal 0 w.zero; to = w.literal k small; body = let_below _ inner sum l.body })
 
   counted_kept : (k : ℕ) (r : Option Name) → K k → HasIf N r → LoopKept (counted_to k r)
   counted_kept k None small hr (gen_loop ls c a b inner) h =
@@ -88,7 +89,7 @@ module _ (N : Name → Type 0) (E : Expr → Type 0) (K : ℕ → Type 0) (P : S
       let l = has_loop N E K P w ls c a b inner h in
       let last = w.both Sub b (ll 1) l.to (w.literal 1 w.one) in
       let turn = w.let_of Long c (bin Sub (bin Sub b (ll 1)) (read r)) l.counter (w.both Sub (bin Sub b (ll 1)) (read r) last (w.name r hr)) in
-      loop_has N E K P w ls r (ll 0) b _ (record { lets = l.lets; counter = hr; from = w.literal 0 w.zero; to = l.to; body = let_below _ inner turn l.body })
+      loop_has N E K P w ls r (ll 0) b (put_let (let_stmt c (bin Sub (bin Sub b (ll 1)) (read r))) inner) (record { lets = l.lets; counter = hr; from = w.literal 0 w.zero; to = l.to; body = let_below _ inner turn l.body })
 
   -- ---- the first loop of a Gen
 

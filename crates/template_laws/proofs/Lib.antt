@@ -5,3 +5,4 @@ pub mod Drawn
 pub mod WellFormed
 pub mod Shown
 pub mod Low
+pub mod StayedIn

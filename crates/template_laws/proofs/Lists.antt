@@ -8,12 +8,12 @@ use Rattle.c_tree.specs.declared.tree.UnOp.TheVariants.{Neg}
 use Rattle.loop_normal.specs.Gens.{Inner, gen_loop, join, counter_loop, loop_stmts, inner_stmts}
 use Rattle.loop_normal.specs.Templates.{ll, only}
 
-pub record LoopHas (N : Name → Type 0) (E : Expr → Type 0) (P : Stmts → Type 0) (ls : Stmts) (c : Name) (a b : Expr) (body : Stmts) : Type 0 where
+pub record LoopHas (N : Name → Type 0) (E : Expr → Type 0) (P : Stmts → Type 0) (ls : Stmts) (c : Name) (a b : Expr) (list : Stmts) : Type 0 where
   pub lets : P ls
   pub counter : N c
   pub from : E a
   pub to : E b
-  pub body : P body
+  pub body : P list
 
 pub record IsEach (N : Name → Type 0) (E : Expr → Type 0) (K : ℕ → Type 0) (P : Stmts → Type 0) : Type 0 where
   pub none : P no_stmts

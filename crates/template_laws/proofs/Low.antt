@@ -11,7 +11,7 @@ use Rattle.loop_normal.specs.DrawnNames.{FreshNames, drawn, after_draws}
 use Rattle.loop_normal.specs.Gens.{GenLoop, gen_loop, Inner, Nest, Seq, Looped, Plain, Parts, no_parts, more_parts, Gen, join, let_stmt, loop_stmts, inner_stmts, parts_stmts, emit}
 use Rattle.loop_normal.specs.Templates.{ll, only, put_let, LoopNames, SourceLoop, count_by, is_up, signed_literal, value_expr, source_front, source_var, leaf, rebased, fixed, on_first, begins_at_zero}
 use Rattle.loop_normal.specs.FromZero.{from_zero}
-use Rattle.nest_normal.specs.NestTexts.{put_visible, is_hidden, declare_in, declare_below, loop_round, nest_round, counted_to, at_loop, with_count}
+use Rattle.nest_normal.specs.NestTexts.{innermost, put_visible, is_hidden, declare_in, declare_below, loop_round, nest_round, counted_to, at_loop, with_count}
 use Rattle.permute_reverse.specs.Reversed.{reversed, reversed_gen}
 use Rattle.template_laws.specs.Heights.{height, front_height, counter_height}
 
@@ -42,17 +42,17 @@ low_second k (more_stmts a as') b h = low_second k as' b (let r = le-max_right (
 
 -- ---- a loop, by its parts
 
-record LowLoop (k : ℕ) (ls : Stmts) (a b : Expr) (body : Stmts) : Type 0 where
+record LowLoop (k : ℕ) (ls : Stmts) (a b : Expr) (list : Stmts) : Type 0 where
   pub lets : stmts_height ls ≤ k
   pub from : 2 + expr_height a ≤ k
   pub to : 2 + expr_height b ≤ k
-  pub body : 1 + stmts_height body ≤ k
+  pub body : 1 + stmts_height list ≤ k
 
 loop_low : (k : ℕ) (ls : Stmts) (c : Name) (a b : Expr) (inner : Inner) → LowLoop k ls a b (inner_stmts inner) → stmts_height (loop_stmts (gen_loop ls c a b inner)) ≤ k
-loop_low k ls c a b inner h = join_low k ls _ h.lets (only_low (expr_height a) (expr_height b) (stmts_height (inner_stmts inner)) h.from h.to h.body)
+loop_low k ls c a b inner h = join_low k ls _ h.lets (only_low (expr_height a) (expr_height b) (stmts_height (inner_stmts inner)) (expr_high b) h.from h.to h.body)
   where
-    only_low : (a b i : ℕ) → 2 + a ≤ k → 2 + b ≤ k → 1 + i ≤ k → max (1 + max (max (1 + a) (max (1 + max 1 b) (1 + 0))) i) 0 ≤ k
-    only_low a b i h m n = omega arith
+    only_low : (a b i : ℕ) → 1 ≤ b → 2 + a ≤ k → 2 + b ≤ k → 1 + i ≤ k → max (1 + max (max (1 + a) (max (1 + max 1 b) (1 + 0))) i) 0 ≤ k
+    only_low a b i one h m n = omega arith
 
 low_loop : (k : ℕ) (ls : Stmts) (c : Name) (a b : Expr) (inner : Inner) → stmts_height (loop_stmts (gen_loop ls c a b inner)) ≤ k → LowLoop k ls a b (inner_stmts inner)
 low_loop k ls c a b inner h =
@@ -81,8 +81,9 @@ rebased_adds x y r k (gen_loop ls c a b inner) h =
     let to = l.to in
     let lets = l.lets in
     let body = l.body in
-    loop_low (1 + k) _ r (ll 0) (read y) _ (record {
-      lets = join_low (1 + k) ls _ (omega arith) (max-le (omega arith) (max-le (sum (expr_height b) to) (omega arith)));
+    let two = more_stmts (let_stmt x a) (only (let_stmt y (bin Sub b (read x)))) in
+    loop_low (1 + k) (join ls two) r (ll 0) (read y) (put_let (let_stmt c (bin Add (read x) (read r))) inner) (record {
+      lets = join_low (1 + k) ls two (omega arith) (max-le (omega arith) (max-le (sum (expr_height b) to) (omega arith)));
       from = omega arith;
       to = omega arith;
       body = let i = let_low k (let_stmt c (bin Add (read x) (read r))) inner (omega arith) (omega arith) in omega arith;
@@ -98,7 +99,7 @@ fixed_adds n r k (gen_loop ls c a b inner) h =
     let from = l.from in
     let lets = l.lets in
     let body = l.body in
-    loop_low (1 + k) ls r (ll 0) (ll n) _ (record {
+    loop_low (1 + k) ls r (ll 0) (ll n) (put_let (let_stmt c (bin Add a (read r))) inner) (record {
       lets = omega arith;
       from = omega arith;
       to = omega arith;
@@ -113,7 +114,8 @@ counted_adds n None k (gen_loop ls c a b inner) h =
     let l = low_loop k ls c a b inner h in
     let one = expr_high b in
     let to = l.to in
-    loop_low k ls c a (ll n) inner (record { lets = l.lets; from = l.from; to = omega arith; body = l.body })
+    let low = loop_low k ls c a (ll n) inner (record { lets = l.lets; from = l.from; to = omega arith; body = l.body }) in
+    omega arith
 counted_adds n (Some r) k l h = fixed_adds n r k l h
 
 at_loop_adds : (n d : ℕ) (f : GenLoop → GenLoop) → Adds n f → Adds n (at_loop d f)
@@ -135,7 +137,7 @@ reversed_adds r k (gen_loop ls c a b inner) h =
     let to = l.to in
     let lets = l.lets in
     let body = l.body in
-    loop_low (2 + k) ls r (ll 0) b _ (record {
+    loop_low (2 + k) ls r (ll 0) b (put_let (let_stmt c (bin Sub (bin Sub b (ll 1)) (read r))) inner) (record {
       lets = omega arith;
       from = omega arith;
       to = omega arith;
@@ -154,12 +156,14 @@ both_add x y p r k (gen_loop ls c a b inner) h =
     let to = l.to in
     let lets = l.lets in
     let body = l.body in
-    let sum = let_low k (let_stmt c (bin Add (read x) (read p))) inner (omega arith) (omega arith) in
-    loop_low (2 + k) _ r (ll 0) (read y) _ (record {
-      lets = join_low (2 + k) ls _ (omega arith) (max-le (omega arith) (max-le (width (expr_height b) to) (omega arith)));
+    let below = put_let (let_stmt c (bin Add (read x) (read p))) inner in
+    let sum : stmts_height (inner_stmts below) ≤ k = let_low k (let_stmt c (bin Add (read x) (read p))) inner (omega arith) (omega arith) in
+    let two = more_stmts (let_stmt x a) (only (let_stmt y (bin Sub b (read x)))) in
+    loop_low (2 + k) (join ls two) r (ll 0) (read y) (put_let (let_stmt p (bin Sub (bin Sub (read y) (ll 1)) (read r))) below) (record {
+      lets = join_low (2 + k) ls two (omega arith) (max-le (omega arith) (max-le (width (expr_height b) to) (omega arith)));
       from = omega arith;
       to = omega arith;
-      body = let i = let_low (1 + k) (let_stmt p (bin Sub (bin Sub (read y) (ll 1)) (read r))) (put_let (let_stmt c (bin Add (read x) (read p))) inner) (omega arith) (omega arith) in omega arith;
+      body = let i = let_low (1 + k) (let_stmt p (bin Sub (bin Sub (read y) (ll 1)) (read r))) below (omega arith) (omega arith) in omega arith;
     })
   where
     width : (b : ℕ) → 2 + b ≤ k → 1 + (1 + max b 1) ≤ 2 + k
@@ -177,7 +181,7 @@ first_low n f adds k (more_parts (Looped l) ps) h =
 gen_low : (n : ℕ) (f : GenLoop → GenLoop) → Adds n f → (k : ℕ) (g : Gen) → height g ≤ k → height (record { front = g.front; parts = on_first f g.parts }) ≤ n + k
 gen_low n f adds k g h =
     let front = low_first k g.front (parts_stmts g.parts) h in
-    join_low (n + k) g.front _ (omega arith) (first_low n f adds k g.parts (low_second k g.front (parts_stmts g.parts) h))
+    join_low (n + k) g.front (parts_stmts (on_first f g.parts)) (omega arith) (first_low n f adds k g.parts (low_second k g.front (parts_stmts g.parts) h))
 
 pub from_zero_low : (f : FreshNames) (g : Gen) → height (from_zero f g) ≤ 1 + height g
 from_zero_low f g = by (begins_at_zero g.parts)
@@ -249,7 +253,7 @@ module _ (m : LoopNames) (h : SourceLoop) where
           let eight = le-max_left 8 (1 + max (expr_height h.lb) (expr_height h.ub)) in
           let list : stmts_height (more_stmts (source_var m h) (only (block body))) ≤ k - 1 = let v = var_low in max-le (omega arith) (max-le (omega arith) (omega arith)) in
           let loop = loop_low k no_stmts m.counter (ll 0) (read m.count) (Seq (more_parts (Plain (more_stmts (source_var m h) (only (block body)))) no_parts)) (record { lets = omega arith; from = omega arith; to = omega arith; body = omega arith }) in
-          front_low k _ front (join_low k _ no_stmts loop (omega arith))
+          front_low k (join (loop_stmts (innermost m h body)) no_stmts) front (join_low k (loop_stmts (innermost m h body)) no_stmts loop (omega arith))
 
   visible_low : (k : ℕ) (ps : Parts) → 6 ≤ k → stmts_height (parts_stmts ps) ≤ k → stmts_height (parts_stmts (put_visible (source_var m h) ps)) ≤ k
   visible_low k ps six low = by (is_hidden (source_var m h) (parts_stmts ps))
@@ -286,4 +290,4 @@ module _ (m : LoopNames) (h : SourceLoop) where
       let l = le-max_left (front_height h) (5 + k) in
       let r = le-max_right (front_height h) (5 + k) in
       let rest = gen_low 5 (loop_round m h) loop_round_adds k g (omega arith) in
-      front_low n _ l (omega arith)
+      front_low n (join g.front (parts_stmts (on_first (loop_round m h) g.parts))) l (omega arith)

@@ -41,7 +41,7 @@ plain_each = record {
   converted = λ T e h. tt;
 }
 
-any_if : (r : Option Name) → HasIf AnyName r
+pub any_if : (r : Option Name) → HasIf AnyName r
 any_if None = tt
 any_if (Some r) = tt
 

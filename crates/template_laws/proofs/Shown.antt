@@ -193,7 +193,7 @@ module _ (ds : List Define) (s : State) where
     pub round_shows : (g : Gen) → AllPlain (emit g) → shown ds s (nest_round m h g) ≡ shows g.front ++ shown_with_round ds s g.parts
     round_shows g k =
         let rest = join g.front (parts_stmts (on_first (loop_round m h) g.parts)) in
-        let plain : AllPlain rest = plain_each.rest _ rest (plain_each.rest _ _ (plain_each.rest _ _ (round_plain m h g k))) in
+        let plain : AllPlain rest = (round_plain m h g k).1.1.1 in
         in_any ds rest plain _ s
         ∙ joined_shows g.front _ (second_has AnyName AnyExpr AnyNumber AllPlain plain_each g.front _ plain)
         ∙ ap (λ z. shows g.front ++ z) (first_round g.parts (second_has AnyName AnyExpr AnyNumber AllPlain plain_each g.front (parts_stmts g.parts) k))

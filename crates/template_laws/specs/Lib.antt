@@ -2,3 +2,4 @@ pub mod Outlines
 pub mod Directives
 pub mod Forms
 pub mod Heights
+pub mod NoBreaks

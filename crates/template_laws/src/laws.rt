@@ -3,6 +3,7 @@
 ghost use Rattle.template_laws.specs.Outlines.{CountKeepsOutline, LeafShowsOneMore, RebaseKeepsOutline, ReverseKeepsOutline, RoundShowsOneMore};
 ghost use Rattle.template_laws.specs.Directives.{CountAddsNone, LeafAddsNone, RebaseAddsNone, ReverseAddsNone, RoundAddsNone};
 ghost use Rattle.template_laws.specs.Forms.{CountKeepsForm, DrawnAreNames, LeafKeepsForm, RebaseKeepsForm, ReverseKeepsForm, RoundKeepsForm};
+ghost use Rattle.template_laws.specs.NoBreaks.{CountStaysIn, LeafStaysIn, RebaseStaysIn, ReverseStaysIn, RoundStaysIn};
 ghost use Rattle.template_laws.specs.Heights.{CountIsLow, LeafIsLow, RebaseIsLow, ReverseIsLow, RoundIsLow};
 
 /// The loops and the leaves that code shows in the order of its text (OpenMP 6.0, 6.4.1: the loops of a canonical loop nest,
@@ -45,4 +46,14 @@ pub fn heights_added()
     ensures rebase { RebaseIsLow }
     ensures count { CountIsLow }
     ensures reverse { ReverseIsLow }
+{}
+
+/// No `break` leaves a loop of the answer where none would leave a loop round what was given (OpenMP 6.0, 6.4.1: no
+/// statement leaves a canonical loop; C11 6.8.6.3).
+pub fn no_loop_left()
+    ensures leaf { LeafStaysIn }
+    ensures round { RoundStaysIn }
+    ensures rebase { RebaseStaysIn }
+    ensures count { CountStaysIn }
+    ensures reverse { ReverseStaysIn }
 {}
