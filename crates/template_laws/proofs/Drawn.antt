@@ -1,4 +1,4 @@
--- A drawn name is a name: letters and digits.
+-- A drawn name is a name, of letters and digits, and none that is drawn later.
 use Rattle.std.proofs.Common.{◌≡◌, refl, sym, ap, ◌∙◌, subst, ℕ, zero, suc, ◌+◌, ◌≤◌, List, [], ◌∷◌, length, reverse, Bool, true, false, ◌&&◌, ◌||◌, not, IsTrue, arith, lit≤}
 use Rattle.std.specs.Prelude.{if◌then◌else◌, nat_lt}
 use Rattle.std.specs.List.{list_all}
@@ -9,7 +9,9 @@ use Rattle.c_tree.specs.Bare.{Name}
 use Rattle.c_tree.specs.NameRules.DeclaredNames.{is_among}
 use Rattle.c_tree.specs.WellFormed.{keywords, is_letter, is_digit, IsName}
 use Rattle.c_semantics.specs.Meaning.FileVariables.{has_name}
-use Rattle.loop_normal.specs.DrawnNames.{FreshNames, next_digits, numbered, untaken, drawn_digits, drawn, after_draw, after_draws, no_draws}
+use Rattle.loop_normal.specs.DrawnNames.{FreshNames, next_digits, numbered, untaken, drawn_digits, drawn, after_draw, after_draws, no_draws, AreDigits}
+use Rattle.loop_normal.proofs.Drawn.{drawn_once}
+use Rattle.template_laws.specs.Names.{DrawsApart}
 
 abbrev AreDecimal : List ℕ → Type 0
 AreDecimal [] = Unit {0}
@@ -62,3 +64,13 @@ drawn_name f h = numbered_name (drawn_digits f) (drawn_decimal f h)
 
 pub drawn_are_names : (taken : List Name) (j k : ℕ) → IsName (drawn (after_draws k (after_draws j (no_draws taken))))
 drawn_are_names taken j k = drawn_name (after_draws k (after_draws j (no_draws taken))) (after_decimal k (after_draws j (no_draws taken)) (after_decimal j (no_draws taken) (lit≤ tt, lit≤ tt, tt)))
+
+are_digits : (ds : List ℕ) → AreDecimal ds → AreDigits ds
+are_digits [] h = tt
+are_digits (d ∷ ds) h = (h.0, are_digits ds h.2)
+
+apart_from : (f : FreshNames) → AreDecimal f.digits → DrawsApart f
+apart_from f h j k = drawn_once (after_draws j f) (are_digits (after_draws j f).digits (after_decimal j f h)) k
+
+pub drawn_are_apart : (taken : List Name) (k : ℕ) → DrawsApart (after_draws k (no_draws taken))
+drawn_are_apart taken k = apart_from (after_draws k (no_draws taken)) (after_decimal k (no_draws taken) (lit≤ tt, lit≤ tt, tt))

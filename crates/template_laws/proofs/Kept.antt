@@ -99,7 +99,7 @@ module _ (N : Name → Type 0) (E : Expr → Type 0) (K : ℕ → Type 0) (P : S
   first_kept f kept (more_parts (Looped l) ps) h =
       join_has N E K P w (loop_stmts (f l)) (parts_stmts ps) (kept l (first_has N E K P w (loop_stmts l) (parts_stmts ps) h)) (second_has N E K P w (loop_stmts l) (parts_stmts ps) h)
 
-  gen_kept : (f : GenLoop → GenLoop) → LoopKept f → (g : Gen) → P (emit g) → P (emit (record { front = g.front; parts = on_first f g.parts }))
+  pub gen_kept : (f : GenLoop → GenLoop) → LoopKept f → (g : Gen) → P (emit g) → P (emit (record { front = g.front; parts = on_first f g.parts }))
   gen_kept f kept g h =
       join_has N E K P w g.front _ (first_has N E K P w g.front (parts_stmts g.parts) h) (first_kept f kept g.parts (second_has N E K P w g.front (parts_stmts g.parts) h))
 

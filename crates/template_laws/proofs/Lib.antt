@@ -6,3 +6,9 @@ pub mod WellFormed
 pub mod Shown
 pub mod Low
 pub mod StayedIn
+pub mod Scopes
+pub mod Seen
+pub mod NamesMore
+pub mod LoopNames
+pub mod Changed
+pub mod NoBreaches

@@ -3,3 +3,4 @@ pub mod Directives
 pub mod Forms
 pub mod Heights
 pub mod NoBreaks
+pub mod Names

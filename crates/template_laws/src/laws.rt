@@ -4,6 +4,7 @@ ghost use Rattle.template_laws.specs.Outlines.{CountKeepsOutline, LeafShowsOneMo
 ghost use Rattle.template_laws.specs.Directives.{CountAddsNone, LeafAddsNone, RebaseAddsNone, ReverseAddsNone, RoundAddsNone};
 ghost use Rattle.template_laws.specs.Forms.{CountKeepsForm, DrawnAreNames, LeafKeepsForm, RebaseKeepsForm, ReverseKeepsForm, RoundKeepsForm};
 ghost use Rattle.template_laws.specs.NoBreaks.{CountStaysIn, LeafStaysIn, RebaseStaysIn, ReverseStaysIn, RoundStaysIn};
+ghost use Rattle.template_laws.specs.Names.{CountBreaksNone, DrawnAreApart, LeafBreaksNone, RebaseBreaksNone, ReverseBreaksNone};
 ghost use Rattle.template_laws.specs.Heights.{CountIsLow, LeafIsLow, RebaseIsLow, ReverseIsLow, RoundIsLow};
 
 /// The loops and the leaves that code shows in the order of its text (OpenMP 6.0, 6.4.1: the loops of a canonical loop nest,
@@ -56,4 +57,15 @@ pub fn no_loop_left()
     ensures rebase { RebaseStaysIn }
     ensures count { CountStaysIn }
     ensures reverse { ReverseStaysIn }
+{}
+
+/// Where the code that was given breaks no name rule, the answer breaks none in the same place, if the drawn names are new
+/// there (C11 6.2.1 and 6.7). The bounds of a loop don't name its own counter (OpenMP 6.0, 6.4.1: they are loop invariant),
+/// and the list below it doesn't declare that again. No name is drawn twice.
+pub fn names_kept()
+    ensures drawn { DrawnAreApart }
+    ensures leaf { LeafBreaksNone }
+    ensures rebase { RebaseBreaksNone }
+    ensures count { CountBreaksNone }
+    ensures reverse { ReverseBreaksNone }
 {}
