@@ -1,18 +1,18 @@
 -- What the rewrites make of a nest breaks no name rule, and shows what follows what it saw.
-use Rattle.std.proofs.Common.{◌≡◌, refl, sym, ap, ◌∙◌, subst, ℕ, zero, suc, Option, Some, None, Bool, true, false}
-use Rattle.c_tree.specs.Bare.{Name, Expr, read, bin, Stmts, no_stmts, more_stmts}
+use Rattle.std.proofs.Common.{◌≡◌, refl, sym, ◌∙◌, subst, ℕ, zero, suc, Option, None, Bool, true, false}
+use Rattle.c_tree.specs.Bare.{Name, Expr, read, bin, Stmts, more_stmts}
 use Rattle.c_tree.specs.declared.tree.BinOp.TheVariants.{Add, Sub}
-use Rattle.c_tree.specs.NameRules.Scopes.{Scope, meaning, is_taken, declare, a_scalar, inner, after_stmt}
+use Rattle.c_tree.specs.NameRules.Scopes.{Scope, is_taken, declare, a_scalar, inner}
 use Rattle.c_semantics.specs.Laws.Names.{Names, UsesAll}
 use Rattle.c_semantics.specs.Laws.Apart.{Differ}
 use Rattle.c_soundness.specs.NeverStuck.{AllPlain}
-use Rattle.loop_normal.specs.DrawnNames.{FreshNames, drawn, after_draws}
-use Rattle.loop_normal.specs.Gens.{GenLoop, gen_loop, Inner, Nest, Seq, Looped, Plain, Parts, no_parts, more_parts, Gen, join, let_stmt, counter_loop, loop_stmts, inner_stmts, parts_stmts, emit}
+use Rattle.loop_normal.specs.DrawnNames.{FreshNames}
+use Rattle.loop_normal.specs.Gens.{GenLoop, gen_loop, Inner, Nest, Seq, join, let_stmt, counter_loop, loop_stmts, inner_stmts}
 use Rattle.loop_normal.proofs.FreshFrames.{differ_sym}
-use Rattle.loop_normal.specs.Templates.{ll, only, put_let, rebased, fixed, on_first}
-use Rattle.nest_normal.specs.NestTexts.{declares, counted_to, at_loop}
+use Rattle.loop_normal.specs.Templates.{ll, only, put_let, rebased, fixed}
+use Rattle.nest_normal.specs.NestTexts.{counted_to, at_loop}
 use Rattle.permute_reverse.specs.Reversed.{reversed}
-use Rattle.template_laws.specs.Names.{ExprBreaksNone, BreaksNone, NeverDrawn, DrawsApart, Unseen, IsOrderly, IsOrderlyBelow, FirstIsOrderly}
+use Rattle.template_laws.specs.Names.{ExprBreaksNone, BreaksNone, NeverDrawn, DrawsApart, Unseen, IsOrderly}
 use Rattle.template_laws.proofs.Lists.{first_has, second_has, has_loop}
 use Rattle.template_laws.proofs.Plain.{AnyName, AnyExpr, AnyNumber, plain_each}
 use Rattle.template_laws.proofs.Scopes.{meaning_inner, meaning_other, unseen_free, own_scalar, still_scalar, inner_scalar, scalar_read}
@@ -65,7 +65,7 @@ module _ (f : FreshNames) (inside : Bool) where
   pub record Opened (o : Option Name) (il : Bool) (s t : Scope) (ls : Stmts) (c : Name) (a b : Expr) (inner' : Inner) : Type 0 where
     pub lets : BreaksNone inside il t ls
     pub sees : Sees S o (after_all s ls) (after_all t ls)
-    pub unseen : Unseen f (after_all t ls)
+    pub lets_names : UsesAll S S ls
     pub counter : S c
     pub from : Names S a
     pub to : Names S b
@@ -73,8 +73,8 @@ module _ (f : FreshNames) (inside : Bool) where
     pub plain : AllPlain (inner_stmts inner')
     pub loop : LoopBreaksNone inside (after_all s ls) c a b (inner_stmts inner')
 
-  opened : (o : Option Name) (il : Bool) (s t : Scope) (ls : Stmts) (c : Name) (a b : Expr) (inner' : Inner) → Unseen f t → Given o il s t (loop_stmts (gen_loop ls c a b inner')) → Opened o il s t ls c a b inner'
-  opened o il s t ls c a b inner' unseen g =
+  pub opened : (o : Option Name) (il : Bool) (s t : Scope) (ls : Stmts) (c : Name) (a b : Expr) (inner' : Inner) → Given o il s t (loop_stmts (gen_loop ls c a b inner')) → Opened o il s t ls c a b inner'
+  opened o il s t ls c a b inner' g =
       let loop = only (counter_loop c a b (inner_stmts inner')) in
       let lets = first_given o il s t ls loop g in
       let kept = same_list o il s t ls lets in
@@ -82,7 +82,7 @@ module _ (f : FreshNames) (inside : Bool) where
       record {
         lets = kept.none;
         sees = kept.after;
-        unseen = unseen_after f inside ls t lets.names unseen;
+        lets_names = lets.names;
         counter = names.counter;
         from = names.from;
         to = names.to;
@@ -92,7 +92,7 @@ module _ (f : FreshNames) (inside : Bool) where
       }
 
   -- another loop after these declarations
-  closed : (o : Option Name) (il : Bool) (s t u : Scope) (ls ms : Stmts) (c r : Name) (a b from to : Expr) (inner' below : Inner) → u ≡ after_all t ms → BreaksNone inside il t ms → Sees S o (after_all s ls) u →
+  pub closed : (o : Option Name) (il : Bool) (s t u : Scope) (ls ms : Stmts) (c r : Name) (a b from to : Expr) (inner' below : Inner) → u ≡ after_all t ms → BreaksNone inside il t ms → Sees S o (after_all s ls) u →
       BreaksNone inside il u (only (counter_loop r from to (inner_stmts below))) → Changed o il s t (loop_stmts (gen_loop ls c a b inner')) (loop_stmts (gen_loop ms r from to below))
   closed o il s t u ls ms c r a b from to inner' below e lets sees loop =
       let new = only (counter_loop r from to (inner_stmts below)) in
@@ -123,30 +123,30 @@ module _ (f : FreshNames) (inside : Bool) where
 
   pub reversed_changes : (k : ℕ) → Changes (reversed (New f inside k))
   reversed_changes k o il s t (gen_loop ls c a b inner') orderly unseen g =
-      let w = opened o il s t ls c a b inner' unseen g in
+      let w = opened o il s t ls c a b inner' g in
       let r = New f inside k in
       let s1 = after_all s ls in
       let t1 = after_all t ls in
       let e = bin Sub (bin Sub b (ll 1)) (read r) in
       closed o il s t t1 ls ls c r a b (ll 0) b inner' (put_let (let_stmt c e) inner') refl w.lets w.sees
-      (new_loop f inside il k s1 t1 c a b inner' w.sees.same (w.unseen k) w.counter w.names w.plain orderly.2 w.loop b e
+      (new_loop f inside il k s1 t1 c a b inner' w.sees.same (unseen_after f inside ls t w.lets_names unseen k) w.counter w.names w.plain orderly.2 w.loop b e
       (λ new. head_bound k s1 t1 c b w.sees.same w.to orderly.1 w.loop.to)
       (λ new. ((below_bound k s1 t1 c b w.to orderly.1 w.loop.to new, tt), below_counter k s1 t1 c w.counter new)))
 
   pub fixed_changes : (n k : ℕ) → Changes (fixed n (New f inside k))
   fixed_changes n k o il s t (gen_loop ls c a b inner') orderly unseen g =
-      let w = opened o il s t ls c a b inner' unseen g in
+      let w = opened o il s t ls c a b inner' g in
       let r = New f inside k in
       let s1 = after_all s ls in
       let t1 = after_all t ls in
       let e = bin Add a (read r) in
       closed o il s t t1 ls ls c r a b (ll 0) (ll n) inner' (put_let (let_stmt c e) inner') refl w.lets w.sees
-      (new_loop f inside il k s1 t1 c a b inner' w.sees.same (w.unseen k) w.counter w.names w.plain orderly.2 w.loop (ll n) e
+      (new_loop f inside il k s1 t1 c a b inner' w.sees.same (unseen_after f inside ls t w.lets_names unseen k) w.counter w.names w.plain orderly.2 w.loop (ll n) e
       (λ new. tt)
       (λ new. (below_bound k s1 t1 c a w.from orderly.0 w.loop.from new, below_counter k s1 t1 c w.counter new)))
 
   -- the loop itself, to another end and with another list below it
-  kept_loop : (il : Bool) (s t : Scope) (c : Name) (a b : Expr) (list : Stmts) → Same S s t → S c → Names S a → LoopBreaksNone inside s c a b list → (to : Expr) (new : Stmts) →
+  pub kept_loop : (il : Bool) (s t : Scope) (c : Name) (a b : Expr) (list : Stmts) → Same S s t → S c → Names S a → LoopBreaksNone inside s c a b list → (to : Expr) (new : Stmts) →
       (Sees S None (inner (declare c a_scalar (inner s))) (inner (declare c a_scalar (inner t))) → is_taken (inner t) c ≡ false → ExprBreaksNone (declare c a_scalar (inner t)) to × BreaksNone inside true (inner (declare c a_scalar (inner t))) new) →
       BreaksNone inside il t (only (counter_loop c a to new))
   kept_loop il s t c a b list same pc n h to new go =
@@ -163,7 +163,7 @@ module _ (f : FreshNames) (inside : Bool) where
 
   pub to_literal_changes : (n : ℕ) → Changes (counted_to n None)
   to_literal_changes n o il s t (gen_loop ls c a b inner') orderly unseen g =
-      let w = opened o il s t ls c a b inner' unseen g in
+      let w = opened o il s t ls c a b inner' g in
       let s1 = after_all s ls in
       let t1 = after_all t ls in
       closed o il s t t1 ls ls c c a b a (ll n) inner' inner' refl w.lets w.sees
@@ -175,13 +175,13 @@ module _ (f : FreshNames) (inside : Bool) where
   at_loop_changes zero h changes o il s t l orderly unseen g = changes o il s t l orderly unseen g
   at_loop_changes (suc d) h changes o il s t (gen_loop ls c a b (Seq ps)) orderly unseen g = same_list o il s t _ g
   at_loop_changes (suc d) h changes o il s t (gen_loop ls c a b (Nest l)) orderly unseen g =
-      let w = opened o il s t ls c a b (Nest l) unseen g in
+      let w = opened o il s t ls c a b (Nest l) g in
       let s1 = after_all s ls in
       let t1 = after_all t ls in
       closed o il s t t1 ls ls c c a b a b (Nest l) (Nest (at_loop d h l)) refl w.lets w.sees
       (kept_loop il s1 t1 c a b (loop_stmts l) w.sees.same w.counter w.from w.loop b (loop_stmts (at_loop d h l)) (λ sees free. (
         expr_stays (declare c a_scalar (inner s1)) (declare c a_scalar (inner t1)) S (sees_declared S None (inner s1) (inner t1) c (sees_inner S s1 t1 w.sees.same) w.loop.free free).same.meaning b w.to w.loop.to,
-        (at_loop_changes d h changes None true (inner (declare c a_scalar (inner s1))) (inner (declare c a_scalar (inner t1))) l orderly.3 (unseen_inner f inside (declare c a_scalar (inner t1)) (unseen_declared f inside (inner t1) c w.counter (unseen_inner f inside t1 w.unseen))) (record {
+        (at_loop_changes d h changes None true (inner (declare c a_scalar (inner s1))) (inner (declare c a_scalar (inner t1))) l orderly.3 (unseen_inner f inside (declare c a_scalar (inner t1)) (unseen_declared f inside (inner t1) c w.counter (unseen_inner f inside t1 (unseen_after f inside ls t w.lets_names unseen)))) (record {
           sees = sees;
           names = w.names;
           plain = w.plain;
@@ -195,21 +195,22 @@ module _ (f : FreshNames) (inside : Bool) where
   module _ (apart : DrawsApart f) where
     pub rebased_changes : Changes (rebased (New f inside 0) (New f inside 1) (New f inside 2))
     rebased_changes o il s t (gen_loop ls c a b inner') orderly unseen g =
-        let w = opened o il s t ls c a b inner' unseen g in
+        let w = opened o il s t ls c a b inner' g in
         let x = New f inside 0 in
         let y = New f inside 1 in
         let r = New f inside 2 in
         let s1 = after_all s ls in
         let t1 = after_all t ls in
-        let x_free = unseen_free t1 x (w.unseen 0) in
+        let unseen1 = unseen_after f inside ls t w.lets_names unseen in
+        let x_free = unseen_free t1 x (unseen1 0) in
         let t2 = declare x a_scalar t1 in
         let y_apart : Differ y x = apart 0 0 in
-        let y_unseen = meaning_other t1 x y y_apart ∙ w.unseen 1 in
+        let y_unseen = meaning_other t1 x y y_apart ∙ unseen1 1 in
         let y_free = unseen_free t2 y y_unseen in
         let t3 = declare y a_scalar t2 in
         let x_scalar = still_scalar t2 y x (differ_sym y x y_apart) (own_scalar t1 x x_free) in
         let sees = sees_new f inside 1 o s1 t2 (sees_new f inside 0 o s1 t1 w.sees x_free) y_free in
-        let r_unseen = meaning_other t2 y r (apart 1 0) ∙ meaning_other t1 x r (apart 0 1) ∙ w.unseen 2 in
+        let r_unseen = meaning_other t2 y r (apart 1 0) ∙ meaning_other t1 x r (apart 0 1) ∙ unseen1 2 in
         let a_none = bound_seen f inside s1 t2 c a w.from orderly.0 w.loop.from (λ z p d. meaning_other t1 x z (differs_new f inside 0 z p) ∙ w.sees.same.meaning z p) in
         let b_none = bound_seen f inside s1 t3 c b w.to orderly.1 w.loop.to (λ z p d. sees.same.meaning z p) in
         let two = more_stmts (let_stmt x a) (only (let_stmt y (bin Sub b (read x)))) in

@@ -1,7 +1,7 @@
 -- The answer of each rewrite has what holds of each of its statements, where what it is made of has it.
 use Rattle.std.proofs.Common.{ℕ, zero, suc, Option, Some, None, Bool, true, false, ℤ, nat_abs}
 use Rattle.std.specs.Prelude.{if◌then◌else◌}
-use Rattle.c_tree.specs.Bare.{Name, Expr, read, bin, cast, Stmt, decl, set, step, print, input, if_, if_else, while_, do_, for_, block, break_, continue_, empty, omp, call, Stmts, no_stmts, more_stmts}
+use Rattle.c_tree.specs.Bare.{Name, Expr, read, bin, cast, Stmt, block, Stmts, no_stmts, more_stmts}
 use Rattle.c_tree.specs.declared.tree.Ty.{Ty}
 use Rattle.c_tree.specs.declared.tree.Ty.TheVariants.{Long}
 use Rattle.c_tree.specs.declared.tree.BinOp.{BinOp}
@@ -10,9 +10,9 @@ use Rattle.loop_normal.specs.Gens.{GenLoop, gen_loop, Inner, Nest, Seq, Looped, 
 use Rattle.loop_normal.specs.Templates.{ll, only, put_let, LoopNames, SourceLoop, gap, strict_count, weak_count, count_by, is_up, signed_literal, value_expr, source_front, source_var, leaf, rebased, fixed, on_first, begins_at_zero}
 use Rattle.loop_normal.specs.DrawnNames.{FreshNames, drawn, after_draws}
 use Rattle.loop_normal.specs.FromZero.{from_zero}
-use Rattle.nest_normal.specs.NestTexts.{innermost, declares, is_hidden, put_visible, declare_in, declare_below, loop_round, nest_round, counted_to, at_loop, with_count}
+use Rattle.nest_normal.specs.NestTexts.{is_hidden, put_visible, declare_in, declare_below, loop_round, nest_round, counted_to, at_loop, with_count}
 use Rattle.permute_reverse.specs.Reversed.{reversed, reversed_gen}
-use Rattle.template_laws.proofs.Lists.{IsEach, LoopHas, join_has, first_has, second_has, loop_has, has_loop}
+use Rattle.template_laws.proofs.Lists.{IsEach, join_has, first_has, second_has, loop_has, has_loop}
 
 -- of a name, where there is one
 abbrev pub HasIf : (Name → Type 0) → Option Name → Type 0

@@ -12,3 +12,4 @@ pub mod NamesMore
 pub mod LoopNames
 pub mod Changed
 pub mod NoBreaches
+pub mod NormalNames

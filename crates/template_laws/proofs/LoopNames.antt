@@ -1,26 +1,26 @@
 -- Generated loops break no name rule where the loops that they are made of break none.
-use Rattle.std.proofs.Common.{◌≡◌, refl, sym, ap, ◌∙◌, subst, ℕ, zero, suc, Option, Some, None, Bool, true, false}
+use Rattle.std.proofs.Common.{◌≡◌, refl, sym, ap, ◌∙◌, subst, ℕ, Option, Some, None, Bool, true, false}
 use Rattle.std.specs.Prelude.{bytes_eq, is_some, if◌then◌else◌}
-use Rattle.c_tree.specs.Bare.{Name, Expr, read, bin, Stmt, decl, set, step, print, input, if_, if_else, while_, do_, for_, block, break_, continue_, empty, omp, call, Stmts, no_stmts, more_stmts}
+use Rattle.c_tree.specs.Bare.{Name, Expr, Stmt, decl, Stmts, no_stmts, more_stmts}
 use Rattle.c_tree.specs.declared.name_rule.NameRule.TheVariants.{N2}
 use Rattle.c_tree.specs.NameRules.BreachSets.{HasNone}
 use Rattle.c_tree.specs.NameRules.Scopes.{Scope, find, meaning, is_define, is_taken, declare, a_scalar, inner, after_stmt}
-use Rattle.c_tree.specs.NameRules.Breaches.{breach_if, use_breaches, expr_breaches, stmts_breaches}
+use Rattle.c_tree.specs.NameRules.Breaches.{breach_if}
 use Rattle.c_semantics.specs.Laws.Names.{Names, UsesAll}
 use Rattle.c_semantics.specs.Laws.Apart.{Differ}
 use Rattle.c_soundness.specs.NeverStuck.{AllPlain}
-use Rattle.c_soundness.specs.Unplaced.{unplaced_stmt, unplaced_stmts}
+use Rattle.c_soundness.specs.Unplaced.{unplaced_stmt}
 use Rattle.c_soundness.proofs.Fits.{none_if}
 use Rattle.loop_normal.specs.DrawnNames.{FreshNames, drawn, after_draws}
-use Rattle.loop_normal.specs.Gens.{gen_loop, Inner, Nest, Seq, join, let_stmt, counter_loop, loop_stmts, inner_stmts}
+use Rattle.loop_normal.specs.Gens.{gen_loop, Inner, Nest, Seq, join, let_stmt, counter_loop, inner_stmts}
 use Rattle.loop_normal.specs.Templates.{ll, only, put_let}
 use Rattle.loop_normal.proofs.FreshFrames.{differ_sym}
-use Rattle.nest_normal.specs.NestTexts.{declares_name, declares}
+use Rattle.nest_normal.specs.NestTexts.{declares}
 use Rattle.template_laws.specs.Names.{ExprBreaksNone, BreaksNone, NeverDrawn, Unseen}
 use Rattle.template_laws.proofs.Lists.{IsEach}
 use Rattle.template_laws.proofs.Plain.{AnyNumber}
 use Rattle.template_laws.proofs.Scopes.{meaning_inner, is_added, meaning_declared, meaning_other, not_taken, no_define, unseen_free, own_scalar, scalar_read, scalar_assigned}
-use Rattle.template_laws.proofs.Seen.{expr_stays, both_names, AllDeclareOthers, Same, Sees, same_self, sees_inner, free_seen, sees_declared, stmt_seen, stmts_seen, declared_other}
+use Rattle.template_laws.proofs.Seen.{expr_stays, both_names, AllDeclareOthers, Same, Sees, stmt_seen, stmts_seen, declared_other}
 
 -- ---- one list after another
 

@@ -8,7 +8,7 @@ use Rattle.c_tree.specs.declared.tree.Ty.{Ty}
 use Rattle.c_tree.specs.declared.tree.BinOp.{BinOp}
 use Rattle.c_tree.specs.declared.tree.BinOp.TheVariants.{Add, Sub, Lt, Gt, Le, Ge, Ne}
 use Rattle.loop_normal.specs.DrawnNames.{FreshNames, drawn, after_draws}
-use Rattle.loop_normal.specs.Gens.{GenLoop, gen_loop, Inner, Nest, Seq, Looped, Plain, Parts, no_parts, more_parts, Gen, join, let_stmt, loop_stmts, inner_stmts, parts_stmts, emit}
+use Rattle.loop_normal.specs.Gens.{GenLoop, gen_loop, Inner, Nest, Seq, Looped, Plain, Parts, no_parts, more_parts, Gen, join, let_stmt, loop_stmts, inner_stmts, parts_stmts}
 use Rattle.loop_normal.specs.Templates.{ll, only, put_let, LoopNames, SourceLoop, count_by, is_up, signed_literal, value_expr, source_front, source_var, leaf, rebased, fixed, on_first, begins_at_zero}
 use Rattle.loop_normal.specs.FromZero.{from_zero}
 use Rattle.nest_normal.specs.NestTexts.{innermost, put_visible, is_hidden, declare_in, declare_below, loop_round, nest_round, counted_to, at_loop, with_count}

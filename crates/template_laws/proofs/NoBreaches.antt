@@ -1,30 +1,29 @@
 -- The answers break no name rule.
-use Rattle.std.proofs.Common.{◌≡◌, refl, sym, ap, ◌∙◌, ℕ, suc, Option, Some, None, Bool, true, false, ℤ, nat_abs}
-use Rattle.std.specs.Prelude.{bytes_eq, if◌then◌else◌}
-use Rattle.c_tree.specs.Bare.{Name, Expr, read, bin, Stmt, decl, block, Stmts, no_stmts, more_stmts}
+use Rattle.std.proofs.Common.{◌≡◌, refl, ap, ◌∙◌, ℕ, suc, Some, None, Bool, true, false, ℤ, nat_abs}
+use Rattle.std.specs.Prelude.{if◌then◌else◌}
+use Rattle.c_tree.specs.Bare.{Name, Expr, read, Stmt, decl, block, Stmts, no_stmts, more_stmts}
 use Rattle.c_tree.specs.declared.tree.Ty.{Ty}
 use Rattle.c_tree.specs.declared.tree.BinOp.{BinOp}
 use Rattle.c_tree.specs.declared.tree.BinOp.TheVariants.{Lt, Gt, Le, Ge, Ne}
-use Rattle.c_tree.specs.NameRules.Scopes.{Scope, meaning, is_define, is_taken, declare, a_scalar, inner}
+use Rattle.c_tree.specs.NameRules.Scopes.{Scope, is_define, declare, a_scalar, inner}
 use Rattle.c_semantics.specs.Laws.Names.{Names, UsesAll}
-use Rattle.c_semantics.specs.Laws.Apart.{Differ}
 use Rattle.c_soundness.specs.NeverStuck.{AllPlain}
 use Rattle.loop_normal.specs.DrawnNames.{FreshNames, drawn, after_draws, loop_names}
 use Rattle.loop_normal.specs.Gens.{GenLoop, gen_loop, Inner, Nest, Seq, Looped, Plain, Parts, no_parts, more_parts, Gen, let_stmt, loop_stmts, inner_stmts, parts_stmts, emit}
-use Rattle.loop_normal.specs.Templates.{ll, only, put_let, SourceLoop, source_var, leaf, count_by, count_expr, is_up, signed_literal, value_expr, rebased, on_first, begins_at_zero}
+use Rattle.loop_normal.specs.Templates.{ll, only, put_let, SourceLoop, source_var, leaf, count_by, is_up, signed_literal, value_expr, rebased, on_first, begins_at_zero}
 use Rattle.loop_normal.specs.FromZero.{from_zero}
 use Rattle.loop_normal.proofs.FreshFrames.{differ_sym}
 use Rattle.nest_normal.specs.NestTexts.{declares, counted_to, zero_in, with_count}
 use Rattle.permute_reverse.specs.Reversed.{reversed, reversed_gen}
-use Rattle.template_laws.specs.Names.{ExprBreaksNone, BreaksNone, NeverDrawn, DrawsApart, Unseen, IsOrderly, IsOrderlyBelow, FirstIsOrderly, IsFine, IsFineLoop}
+use Rattle.template_laws.specs.Names.{ExprBreaksNone, BreaksNone, NeverDrawn, DrawsApart, Unseen, IsOrderlyBelow, FirstIsOrderly, IsFine, IsFineLoop}
 use Rattle.template_laws.proofs.Lists.{first_has, second_has, has_loop}
 use Rattle.template_laws.proofs.Kept.{gen_kept, rebased_kept}
 use Rattle.template_laws.proofs.Plain.{AnyName, AnyExpr, AnyNumber, plain_each}
 use Rattle.template_laws.proofs.NamesMore.{all_more}
 use Rattle.template_laws.proofs.Scopes.{meaning_inner, meaning_other, not_taken, unseen_free, Scalar, own_scalar, still_scalar, inner_scalar, scalar_read}
-use Rattle.template_laws.proofs.Seen.{expr_stays, Same, Sees, sees_self, sees_inner, same_declared, stmts_seen}
+use Rattle.template_laws.proofs.Seen.{expr_stays, Same, sees_self, sees_inner, same_declared, stmts_seen}
 use Rattle.template_laws.proofs.LoopNames.{after_all, join_breaks, names_each, of_loop, free_none, unseen_after, sees_new}
-use Rattle.template_laws.proofs.Changed.{Changed, Given, same_list, first_given, rest_given, Changes, reversed_changes, fixed_changes, to_literal_changes, at_loop_changes, rebased_changes}
+use Rattle.template_laws.proofs.Changed.{Given, same_list, first_given, rest_given, Changes, reversed_changes, fixed_changes, to_literal_changes, at_loop_changes, rebased_changes}
 
 -- ---- the first loop of a Gen
 
@@ -135,66 +134,3 @@ reverse_breaks_none inside il s f g w = by (begins_at_zero g.parts)
     by : (t : Bool) → BreaksNone inside il s (emit (reversed_gen (drawn (if t then f else after_draws 3 f)) (if t then g else to_zero f g)))
     by true = reversed_breaks_none inside il s f g w
     by false = reversed_breaks_none inside il s (after_draws 3 f) (to_zero f g) (to_zero_fine f w.apart inside il s g w)
-
--- ---- the normal form of a loop
-
-count_none : (s : Scope) (op : BinOp) (u : Bool) (k : ℕ) (a b : Name) → Scalar s a → Scalar s b → ExprBreaksNone s (count_by op u k a b)
-count_none s op u k a b sa sb = by op u (scalar_read s a sa) (scalar_read s b sb)
-  where
-    by : (op : BinOp) (u : Bool) → ExprBreaksNone s (read a) → ExprBreaksNone s (read b) → ExprBreaksNone s (count_by op u k a b)
-    by Lt true x y = ((x, y), (((((y, x), tt), tt), tt), tt))
-    by Le true x y = ((x, y), ((((y, x), tt), tt), tt))
-    by Ne true x y = ((x, y), (((((y, x), tt), tt), tt), tt))
-    by Gt false x y = ((x, y), (((((x, y), tt), tt), tt), tt))
-    by Ge false x y = ((x, y), ((((x, y), tt), tt), tt))
-    by Ne false x y = ((x, y), (((((x, y), tt), tt), tt), tt))
-    by op u x y = tt
-
-signed_none : (s : Scope) (u : Bool) (k : ℕ) → ExprBreaksNone s (signed_literal u k)
-signed_none s true k = tt
-signed_none s false k = tt
-
-value_none : (s : Scope) (T : Ty) (z : ℤ) (a t : Name) → Scalar s a → Scalar s t → ExprBreaksNone s (value_expr T z a t)
-value_none s T z a t sa st = (scalar_read s a sa, (scalar_read s t st, signed_none s (is_up z) (nat_abs z)))
-
-same_into : (S : Name → Type 0) (s t : Scope) → Same S s t → Same S s (inner t)
-same_into S s t h = record { meaning = λ y p. meaning_inner t y ∙ h.meaning y p; print_same = h.print_same; input_same = h.input_same }
-
-pub leaf_breaks_none : (inside il : Bool) (s : Scope) (f : FreshNames) (h : SourceLoop) (body : Stmts) → IsFineLoop inside s f h body → BreaksNone inside il s (emit (leaf (loop_names f) h body))
-leaf_breaks_none inside il s f h body w =
-    let S = NeverDrawn f in
-    let begin = drawn f in
-    let end = drawn (after_draws 1 f) in
-    let count = drawn (after_draws 2 f) in
-    let counter = drawn (after_draws 3 f) in
-    let free0 = unseen_free s begin (w.unseen 0) in
-    let v1 = declare begin a_scalar s in
-    let sees1 = sees_new f inside 0 None s s (sees_self S s) free0 in
-    let free1 = unseen_free v1 end (meaning_other s begin end (w.apart 0 0) ∙ w.unseen 1) in
-    let v2 = declare end a_scalar v1 in
-    let sees2 = sees_new f inside 1 None s v1 sees1 free1 in
-    let free2 = unseen_free v2 count (meaning_other v1 end count (w.apart 1 0) ∙ meaning_other s begin count (w.apart 0 1) ∙ w.unseen 2) in
-    let v3 = declare count a_scalar v2 in
-    let sees3 = sees_new f inside 2 None s v2 sees2 free2 in
-    let begin3 = still_scalar v2 count begin (differ_sym count begin (w.apart 0 1)) (still_scalar v1 end begin (differ_sym end begin (w.apart 0 0)) (own_scalar s begin free0)) in
-    let end3 = still_scalar v2 count end (differ_sym count end (w.apart 1 0)) (own_scalar v1 end free1) in
-    let u = inner v3 in
-    let free3 = unseen_free u counter (meaning_inner v3 counter ∙ meaning_other v2 count counter (w.apart 2 0) ∙ meaning_other v1 end counter (w.apart 1 1) ∙ meaning_other s begin counter (w.apart 0 2) ∙ w.unseen 3) in
-    let d = declare counter a_scalar u in
-    let seen = sees_new f inside 3 None (inner s) u (sees_inner S s v3 sees3.same) free3 in
-    let b = inner d in
-    let same = same_into S (inner s) d seen.same in
-    let var_outer = not_taken (inner s) h.var refl (ap is_define (meaning_inner s h.var) ∙ w.no_define) in
-    let var_free = not_taken b h.var refl (ap is_define (same.meaning h.var w.var ∙ meaning_inner s h.var) ∙ w.no_define) in
-    let v = declare h.var a_scalar b in
-    let below = same_declared S (inner s) b h.var same var_outer var_free in
-    let block_none = stmts_seen S inside body None true (inner (declare h.var a_scalar (inner s))) (inner v) (sees_inner S (declare h.var a_scalar (inner s)) v below) w.names w.plain tt w.fine in
-    let counter_scalar = still_scalar b h.var counter (w.var 3) (inner_scalar d counter (own_scalar u counter free3)) in
-    let begin_scalar = still_scalar b h.var begin (w.var 0) (inner_scalar d begin (still_scalar u counter begin (differ_sym counter begin (w.apart 0 2)) (inner_scalar v3 begin begin3))) in
-    let list = more_stmts (source_var (loop_names f) h) (only (block body)) in
-    let list_none : BreaksNone inside true b list = ((free_none b h.var var_free, value_none v h.ty h.step begin counter begin_scalar counter_scalar), (block_none, tt)) in
-    let count_read = scalar_read d count (still_scalar u counter count (differ_sym counter count (w.apart 2 0)) (inner_scalar v3 count (own_scalar v2 count free2))) in
-    let loop = of_loop inside il v3 counter (ll 0) (read count) list (record { free = free3; from = tt; to = count_read; below = list_none }) in
-    ((free_none s begin free0, expr_stays s v1 S sees1.same.meaning h.lb w.lb_names w.lb),
-     ((free_none v1 end free1, expr_stays s v2 S sees2.same.meaning h.ub w.ub_names w.ub),
-      ((free_none v2 count free2, count_none v3 h.test (is_up h.step) (nat_abs h.step) begin end begin3 end3), loop)))

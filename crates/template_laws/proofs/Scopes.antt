@@ -1,8 +1,8 @@
 -- What is visible in a scope inside another one, and after declarations.
-use Rattle.std.proofs.Common.{◌≡◌, refl, sym, ap, ◌∙◌, subst, List, [], ◌∷◌, ◌++◌, Option, Some, None, Bool, true, false, ◌||◌}
+use Rattle.std.proofs.Common.{◌≡◌, refl, sym, ap, ◌∙◌, subst, List, [], ◌∷◌, ◌++◌, Option, Some, None, Bool, true, false}
 use Rattle.std.specs.Prelude.{bytes_eq, is_some, if◌then◌else◌}
 use Rattle.std.proofs.lemmas.Bool.{or_parts, or_from}
-use Rattle.c_tree.specs.Bare.{Name, Expr, read}
+use Rattle.c_tree.specs.Bare.{Name, read}
 use Rattle.c_tree.specs.declared.name_rule.Declaration.{Declaration}
 use Rattle.c_tree.specs.declared.name_rule.Entity.{Entity}
 use Rattle.c_tree.specs.NameRules.BreachSets.{HasNone}

@@ -7,7 +7,7 @@ use Rattle.c_tree.specs.Placed.{expr_list}
 use Rattle.c_tree.specs.declared.tree.Ty.{Ty}
 use Rattle.c_tree.specs.declared.name_rule.NameRule.TheVariants.{N1, N2}
 use Rattle.c_tree.specs.NameRules.BreachSets.{HasNone}
-use Rattle.c_tree.specs.NameRules.Scopes.{Scope, find, meaning, is_define, is_taken, add, declare, a_scalar, inner, after_stmt, after_part}
+use Rattle.c_tree.specs.NameRules.Scopes.{Scope, find, meaning, is_define, is_taken, declare, a_scalar, inner, after_stmt, after_part}
 use Rattle.c_tree.specs.NameRules.Breaches.{breach_if, use_breaches, assign_breaches, call_breaches, expr_breaches, exprs_breaches, option_breaches, target_breaches, stmt_breaches, stmts_breaches, part_breaches}
 use Rattle.c_semantics.specs.Laws.Names.{Names, NamesEach, NamesIf, NamesIn, Uses, UsesAll, UsesIf}
 use Rattle.c_semantics.specs.Laws.Apart.{Differ}

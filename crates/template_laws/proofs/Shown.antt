@@ -2,7 +2,7 @@
 use Rattle.std.proofs.Common.{◌≡◌, refl, sym, ap, ◌∙◌, ℕ, zero, suc, List, [], ◌∷◌, ◌++◌, Option, Some, None, Bool, true, false, append_assoc}
 use Rattle.std.specs.Prelude.{if◌then◌else◌}
 use Rattle.std.proofs.lemmas.List.{append-nil}
-use Rattle.c_tree.specs.Bare.{Name, Expr, read, bin, Stmt, decl, set, step, print, input, if_, if_else, while_, do_, for_, block, break_, continue_, empty, omp, call, Stmts, no_stmts, more_stmts, head, MaybeStmt, no_stmt, a_stmt}
+use Rattle.c_tree.specs.Bare.{Name, Expr, read, bin, Stmt, decl, set, step, print, input, if_, if_else, while_, do_, for_, block, break_, continue_, empty, omp, call, Stmts, no_stmts, more_stmts, head, a_stmt}
 use Rattle.c_tree.specs.declared.tree.BinOp.TheVariants.{Add, Sub}
 use Rattle.c_semantics.specs.Meaning.State.{State}
 use Rattle.c_semantics.specs.Meaning.Expressions.{Define}
@@ -12,7 +12,7 @@ use Rattle.c_semantics.specs.Structure.Skeleton.{shapes, all_shapes, scope_after
 use Rattle.c_soundness.specs.NeverStuck.{IsPlain, AllPlain}
 use Rattle.loop_normal.specs.DrawnNames.{FreshNames, drawn, after_draws}
 use Rattle.loop_normal.specs.Gens.{GenLoop, gen_loop, Inner, Nest, Seq, Looped, Plain, Parts, no_parts, more_parts, Gen, join, let_stmt, loop_stmts, inner_stmts, parts_stmts, emit}
-use Rattle.loop_normal.specs.Templates.{ll, only, put_let, LoopNames, SourceLoop, source_front, source_var, leaf, rebased, fixed, on_first, begins_at_zero}
+use Rattle.loop_normal.specs.Templates.{ll, only, put_let, LoopNames, SourceLoop, source_var, leaf, rebased, on_first, begins_at_zero}
 use Rattle.loop_normal.specs.FromZero.{from_zero}
 use Rattle.nest_normal.specs.NestTexts.{put_visible, is_hidden, declare_in, declare_below, loop_round, nest_round, counted_to, at_loop, with_count}
 use Rattle.permute_reverse.specs.Reversed.{reversed, reversed_gen}

@@ -3,8 +3,8 @@ use Rattle.std.proofs.Common.{ℕ, zero, suc, Option, Some, None, Bool, true, fa
 use Rattle.std.specs.Prelude.{if◌then◌else◌}
 use Rattle.c_tree.specs.Bare.{Name, Expr, Stmt, Stmts, no_stmts, more_stmts}
 use Rattle.loop_normal.specs.DrawnNames.{FreshNames, drawn, after_draws}
-use Rattle.loop_normal.specs.Gens.{GenLoop, gen_loop, Inner, Nest, Seq, Looped, Plain, Parts, no_parts, more_parts, Gen, join, counter_loop, loop_stmts, inner_stmts, parts_stmts, emit}
-use Rattle.loop_normal.specs.Templates.{only, put_let, LoopNames, SourceLoop, source_var, leaf, rebased, fixed, on_first, begins_at_zero}
+use Rattle.loop_normal.specs.Gens.{GenLoop, gen_loop, Inner, Nest, Seq, Looped, Plain, Parts, no_parts, more_parts, Gen, join, counter_loop, loop_stmts, inner_stmts, parts_stmts}
+use Rattle.loop_normal.specs.Templates.{only, put_let, LoopNames, SourceLoop, source_var, leaf, rebased, on_first, begins_at_zero}
 use Rattle.loop_normal.specs.FromZero.{from_zero}
 use Rattle.nest_normal.specs.NestTexts.{put_visible, is_hidden, declare_in, declare_below, loop_round, nest_round, counted_to, at_loop, with_count}
 use Rattle.permute_reverse.specs.Reversed.{reversed, reversed_gen}

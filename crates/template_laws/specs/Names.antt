@@ -1,7 +1,7 @@
 -- The answer of a rewrite breaks no name rule where what it is made of breaks none, and the names that are drawn for it are
 -- new (C11 6.2.1: a name is visible in its scope; 6.7: it is declared once there).
-use Rattle.std.specs.Prelude.{◌≡◌, ℕ, suc, List, Option, Some, None, Bool, true, false}
-use Rattle.c_tree.specs.Bare.{Name, Expr, Stmts}
+use Rattle.std.specs.Prelude.{◌≡◌, ℕ, suc, List, Some, None, Bool, true, false}
+use Rattle.c_tree.specs.Bare.{Name, Expr, decl, Stmts}
 use Rattle.c_tree.specs.NameRules.BreachSets.{HasNone}
 use Rattle.c_tree.specs.NameRules.Scopes.{Scope, meaning, is_define, declare, a_scalar, inner}
 use Rattle.c_tree.specs.NameRules.Breaches.{expr_breaches, stmts_breaches}
@@ -11,9 +11,9 @@ use Rattle.c_soundness.specs.NeverStuck.{AllPlain}
 use Rattle.c_soundness.specs.Unplaced.{unplaced_expr, unplaced_stmts}
 use Rattle.loop_normal.specs.DrawnNames.{FreshNames, drawn, after_draws, no_draws, loop_names}
 use Rattle.loop_normal.specs.Gens.{GenLoop, gen_loop, Inner, Nest, Seq, Looped, Plain, Parts, no_parts, more_parts, Gen, inner_stmts, emit}
-use Rattle.loop_normal.specs.Templates.{SourceLoop, leaf}
+use Rattle.loop_normal.specs.Templates.{ll, SourceLoop, leaf}
 use Rattle.loop_normal.specs.FromZero.{from_zero, after_from_zero}
-use Rattle.nest_normal.specs.NestTexts.{declares, new_counter, with_count}
+use Rattle.nest_normal.specs.NestTexts.{nest_of, declares, declare_in, nest_round, new_counter, with_count}
 use Rattle.permute_reverse.specs.Reversed.{reversed_gen}
 
 abbrev pub ExprBreaksNone : Scope → Expr → Type 0
@@ -103,3 +103,21 @@ abbrev pub LeafBreaksNone : Type 0
 LeafBreaksNone =
     (in_function in_loop : Bool) (s : Scope) (f : FreshNames) (h : SourceLoop) (body : Stmts) → IsFineLoop in_function s f h body →
     BreaksNone in_function in_loop s (emit (leaf (loop_names f) h body))
+
+-- a nest round which a loop is put: with the loop's variable declared below its innermost loop, it breaks none where it stands
+pub record IsFineNest (in_function in_loop : Bool) (s : Scope) (f : FreshNames) (h : SourceLoop) (front : Stmts) (l : GenLoop) : Type 0 where
+  pub apart : DrawsApart f
+  pub unseen : Unseen f s
+  pub var : NeverDrawn f h.var
+  pub lb : ExprBreaksNone s h.lb
+  pub ub : ExprBreaksNone s h.ub
+  pub lb_names : Names (NeverDrawn f) h.lb
+  pub ub_names : Names (NeverDrawn f) h.ub
+  pub names : NamesNoDrawn f (emit (nest_of front l))
+  pub plain : AllPlain (emit (nest_of front l))
+  pub none : BreaksNone in_function in_loop s (emit (nest_of front (declare_in (decl h.ty h.var (Some (ll 0))) l)))
+
+abbrev pub RoundBreaksNone : Type 0
+RoundBreaksNone =
+    (in_function in_loop : Bool) (s : Scope) (f : FreshNames) (h : SourceLoop) (front : Stmts) (l : GenLoop) → IsFineNest in_function in_loop s f h front l →
+    BreaksNone in_function in_loop s (emit (nest_round (loop_names f) h (nest_of front l)))

@@ -4,7 +4,7 @@ ghost use Rattle.template_laws.specs.Outlines.{CountKeepsOutline, LeafShowsOneMo
 ghost use Rattle.template_laws.specs.Directives.{CountAddsNone, LeafAddsNone, RebaseAddsNone, ReverseAddsNone, RoundAddsNone};
 ghost use Rattle.template_laws.specs.Forms.{CountKeepsForm, DrawnAreNames, LeafKeepsForm, RebaseKeepsForm, ReverseKeepsForm, RoundKeepsForm};
 ghost use Rattle.template_laws.specs.NoBreaks.{CountStaysIn, LeafStaysIn, RebaseStaysIn, ReverseStaysIn, RoundStaysIn};
-ghost use Rattle.template_laws.specs.Names.{CountBreaksNone, DrawnAreApart, LeafBreaksNone, RebaseBreaksNone, ReverseBreaksNone};
+ghost use Rattle.template_laws.specs.Names.{CountBreaksNone, DrawnAreApart, LeafBreaksNone, RebaseBreaksNone, ReverseBreaksNone, RoundBreaksNone};
 ghost use Rattle.template_laws.specs.Heights.{CountIsLow, LeafIsLow, RebaseIsLow, ReverseIsLow, RoundIsLow};
 
 /// The loops and the leaves that code shows in the order of its text (OpenMP 6.0, 6.4.1: the loops of a canonical loop nest,
@@ -65,6 +65,7 @@ pub fn no_loop_left()
 pub fn names_kept()
     ensures drawn { DrawnAreApart }
     ensures leaf { LeafBreaksNone }
+    ensures round { RoundBreaksNone }
     ensures rebase { RebaseBreaksNone }
     ensures count { CountBreaksNone }
     ensures reverse { ReverseBreaksNone }
