@@ -168,7 +168,8 @@ module _ (f : FreshNames) (inside : Bool) where
       let t1 = after_all t ls in
       closed o il s t t1 ls ls c c a b a (ll n) inner' inner' refl w.lets w.sees
       (kept_loop il s1 t1 c a b (inner_stmts inner') w.sees.same w.counter w.from w.loop (ll n) (inner_stmts inner') (λ sees free. (
-        tt, stmts_seen S inside (inner_stmts inner') None true (inner (declare c a_scalar (inner s1))) (inner (declare c a_scalar (inner t1))) sees w.names w.plain tt w.loop.below
+        tt,
+        stmts_seen S inside (inner_stmts inner') None true (inner (declare c a_scalar (inner s1))) (inner (declare c a_scalar (inner t1))) sees w.names w.plain tt w.loop.below,
       )))
 
   pub at_loop_changes : (d : ℕ) (h : GenLoop → GenLoop) → Changes h → Changes (at_loop d h)
@@ -187,7 +188,7 @@ module _ (f : FreshNames) (inside : Bool) where
           plain = w.plain;
           others = tt;
           none = w.loop.below;
-        })).none
+        })).none,
       )))
 
   -- ---- the loop brought to begin at 0
@@ -221,6 +222,6 @@ module _ (f : FreshNames) (inside : Bool) where
         (λ new. scalar_read (declare r a_scalar (inner t3)) y (still_scalar (inner t3) r y (differ_sym r y (apart 1 0)) (inner_scalar t3 y (own_scalar t2 y y_free))))
         (λ new. (
           scalar_read (declare c a_scalar (below_new f inside 2 t3)) x
-          (still_scalar (below_new f inside 2 t3) c x (w.counter 0) (inner_scalar (declare r a_scalar (inner t3)) x (still_scalar (inner t3) r x (differ_sym r x (apart 0 1)) (inner_scalar t3 x x_scalar)))),
-          below_counter 2 s1 t3 c w.counter new
+              (still_scalar (below_new f inside 2 t3) c x (w.counter 0) (inner_scalar (declare r a_scalar (inner t3)) x (still_scalar (inner t3) r x (differ_sym r x (apart 0 1)) (inner_scalar t3 x x_scalar)))),
+          below_counter 2 s1 t3 c w.counter new,
         )))

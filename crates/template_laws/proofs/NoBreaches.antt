@@ -1,28 +1,24 @@
 -- The answers break no name rule.
-use Rattle.std.proofs.Common.{◌≡◌, refl, ap, ◌∙◌, ℕ, suc, Some, None, Bool, true, false, ℤ, nat_abs}
+use Rattle.std.proofs.Common.{◌≡◌, refl, ap, ◌∙◌, ℕ, suc, Some, None, Bool, true, false}
 use Rattle.std.specs.Prelude.{if◌then◌else◌}
-use Rattle.c_tree.specs.Bare.{Name, Expr, read, Stmt, decl, block, Stmts, no_stmts, more_stmts}
-use Rattle.c_tree.specs.declared.tree.Ty.{Ty}
-use Rattle.c_tree.specs.declared.tree.BinOp.{BinOp}
-use Rattle.c_tree.specs.declared.tree.BinOp.TheVariants.{Lt, Gt, Le, Ge, Ne}
-use Rattle.c_tree.specs.NameRules.Scopes.{Scope, is_define, declare, a_scalar, inner}
+use Rattle.c_tree.specs.Bare.{Name, Expr, Stmt, decl, Stmts, no_stmts, more_stmts}
+use Rattle.c_tree.specs.NameRules.Scopes.{Scope}
 use Rattle.c_semantics.specs.Laws.Names.{Names, UsesAll}
 use Rattle.c_soundness.specs.NeverStuck.{AllPlain}
-use Rattle.loop_normal.specs.DrawnNames.{FreshNames, drawn, after_draws, loop_names}
+use Rattle.loop_normal.specs.DrawnNames.{FreshNames, drawn, after_draws}
 use Rattle.loop_normal.specs.Gens.{GenLoop, gen_loop, Inner, Nest, Seq, Looped, Plain, Parts, no_parts, more_parts, Gen, let_stmt, loop_stmts, inner_stmts, parts_stmts, emit}
-use Rattle.loop_normal.specs.Templates.{ll, only, put_let, SourceLoop, source_var, leaf, count_by, is_up, signed_literal, value_expr, rebased, on_first, begins_at_zero}
+use Rattle.loop_normal.specs.Templates.{put_let, rebased, on_first, begins_at_zero}
 use Rattle.loop_normal.specs.FromZero.{from_zero}
 use Rattle.loop_normal.proofs.FreshFrames.{differ_sym}
 use Rattle.nest_normal.specs.NestTexts.{declares, counted_to, zero_in, with_count}
 use Rattle.permute_reverse.specs.Reversed.{reversed, reversed_gen}
-use Rattle.template_laws.specs.Names.{ExprBreaksNone, BreaksNone, NeverDrawn, DrawsApart, Unseen, IsOrderlyBelow, FirstIsOrderly, IsFine, IsFineLoop}
+use Rattle.template_laws.specs.Names.{BreaksNone, NeverDrawn, DrawsApart, Unseen, IsOrderlyBelow, FirstIsOrderly, IsFine}
 use Rattle.template_laws.proofs.Lists.{first_has, second_has, has_loop}
 use Rattle.template_laws.proofs.Kept.{gen_kept, rebased_kept}
 use Rattle.template_laws.proofs.Plain.{AnyName, AnyExpr, AnyNumber, plain_each}
 use Rattle.template_laws.proofs.NamesMore.{all_more}
-use Rattle.template_laws.proofs.Scopes.{meaning_inner, meaning_other, not_taken, unseen_free, Scalar, own_scalar, still_scalar, inner_scalar, scalar_read}
-use Rattle.template_laws.proofs.Seen.{expr_stays, Same, sees_self, sees_inner, same_declared, stmts_seen}
-use Rattle.template_laws.proofs.LoopNames.{after_all, join_breaks, names_each, of_loop, free_none, unseen_after, sees_new}
+use Rattle.template_laws.proofs.Seen.{sees_self}
+use Rattle.template_laws.proofs.LoopNames.{after_all, join_breaks, names_each, unseen_after}
 use Rattle.template_laws.proofs.Changed.{Given, same_list, first_given, rest_given, Changes, reversed_changes, fixed_changes, to_literal_changes, at_loop_changes, rebased_changes}
 
 -- ---- the first loop of a Gen

@@ -1,7 +1,7 @@
 -- The normal form of a loop, alone or round a nest, breaks no name rule.
 use Rattle.std.proofs.Common.{◌≡◌, refl, sym, ap, ◌∙◌, ℕ, Option, Some, None, Bool, true, false, ℤ, nat_abs}
 use Rattle.std.specs.Prelude.{if◌then◌else◌}
-use Rattle.c_tree.specs.Bare.{Name, Expr, read, Stmt, decl, set, step, print, input, if_, if_else, while_, do_, for_, block, break_, continue_, empty, omp, call, Stmts, no_stmts, more_stmts, head, MaybeStmt, no_stmt, a_stmt}
+use Rattle.c_tree.specs.Bare.{Name, read, Stmt, decl, set, step, print, input, if_, if_else, while_, do_, for_, block, break_, continue_, empty, omp, call, Stmts, no_stmts, more_stmts, head, MaybeStmt, no_stmt, a_stmt}
 use Rattle.c_tree.specs.declared.tree.Ty.{Ty}
 use Rattle.c_tree.specs.declared.tree.BinOp.{BinOp}
 use Rattle.c_tree.specs.declared.tree.BinOp.TheVariants.{Lt, Gt, Le, Ge, Ne}
@@ -10,17 +10,16 @@ use Rattle.c_tree.specs.NameRules.BreachSets.{HasNone}
 use Rattle.c_tree.specs.NameRules.Breaches.{stmt_breaches, stmts_breaches, part_breaches}
 use Rattle.c_tree.specs.NameRules.Scopes.{Scope, meaning, is_define, is_taken, declare, a_scalar, inner, after_stmt, after_part}
 use Rattle.c_semantics.specs.Laws.Names.{Names, UsesAll}
-use Rattle.c_semantics.specs.Laws.Apart.{Differ}
 use Rattle.c_soundness.specs.NeverStuck.{IsPlain, AllPlain, MaybePlain}
 use Rattle.c_soundness.specs.Unplaced.{unplaced_stmt, unplaced_stmts, unplaced_part}
 use Rattle.c_soundness.proofs.Fits.{none_if}
-use Rattle.loop_normal.specs.DrawnNames.{FreshNames, drawn, after_draws, loop_names}
+use Rattle.loop_normal.specs.DrawnNames.{FreshNames, loop_names}
 use Rattle.loop_normal.specs.Gens.{GenLoop, gen_loop, Inner, Nest, Seq, Plain, Parts, more_parts, join, counter_loop, loop_stmts, inner_stmts, parts_stmts, emit}
 use Rattle.loop_normal.specs.Templates.{ll, only, SourceLoop, source_front, source_var, leaf, count_by, is_up, signed_literal, value_expr}
 use Rattle.loop_normal.proofs.FreshFrames.{differ_sym}
-use Rattle.nest_normal.specs.NestTexts.{nest_of, declares, put_visible, declare_in, declare_below, loop_round, nest_round}
+use Rattle.nest_normal.specs.NestTexts.{nest_of, declares, put_visible, declare_in, declare_below, nest_round}
 use Rattle.template_laws.specs.Names.{ExprBreaksNone, BreaksNone, NeverDrawn, DrawsApart, Unseen, IsFineLoop, IsFineNest}
-use Rattle.template_laws.proofs.Lists.{first_has, second_has, join_has}
+use Rattle.template_laws.proofs.Lists.{first_has, second_has}
 use Rattle.template_laws.proofs.Kept.{declare_kept}
 use Rattle.template_laws.proofs.Plain.{AnyName, AnyExpr, AnyNumber, plain_each}
 use Rattle.template_laws.proofs.Scopes.{meaning_inner, meaning_other, not_taken, unseen_free, Scalar, own_scalar, still_scalar, inner_scalar, scalar_read}
@@ -86,10 +85,13 @@ front_fine f inside s h apart unseen lb ub lb_names ub_names =
       begin = begin3;
       count = own_scalar v2 count free2;
       unseen = meaning_other v2 count counter (apart 2 0) ∙ meaning_other v1 end counter (apart 1 1) ∙ meaning_other s begin counter (apart 0 2) ∙ unseen 3;
-      whole = λ il rest k.
-          ((free_none s begin free0, expr_stays s v1 S sees1.same.meaning h.lb lb_names lb),
-          ((free_none v1 end free1, expr_stays s v2 S sees2.same.meaning h.ub ub_names ub),
-          ((free_none v2 count free2, count_none v3 h.test (is_up h.step) (nat_abs h.step) begin end begin3 end3), k)));
+      whole = λ il rest k. (
+        (free_none s begin free0, expr_stays s v1 S sees1.same.meaning h.lb lb_names lb),
+        (
+          (free_none v1 end free1, expr_stays s v2 S sees2.same.meaning h.ub ub_names ub),
+          ((free_none v2 count free2, count_none v3 h.test (is_up h.step) (nat_abs h.step) begin end begin3 end3), k),
+        ),
+      );
     }
 
 -- ---- the loop from 0 to the count
@@ -233,7 +235,7 @@ module _ (f : FreshNames) (inside : Bool) (h : SourceLoop) (var : NeverDrawn f h
         (closed f inside o il s t t1 ls ls c c a b a b old new refl w.lets w.sees
         (kept_loop f inside il s1 t1 c a b (inner_stmts old) w.sees.same w.counter w.from w.loop b (inner_stmts new) (λ sees free. (
           expr_stays (declare c a_scalar (inner s1)) (declare c a_scalar (inner t1)) S (sees_declared S None (inner s1) (inner t1) c (sees_inner S s1 t1 w.sees.same) w.loop.free free).same.meaning b w.to w.loop.to,
-          below_seen inner' (inner (declare c a_scalar (inner s1))) (inner (declare c a_scalar (inner t1))) sees (reads_below t1 c w.counter reads1) w.names w.plain w.loop.below
+          below_seen inner' (inner (declare c a_scalar (inner s1))) (inner (declare c a_scalar (inner t1))) sees (reads_below t1 c w.counter reads1) w.names w.plain w.loop.below,
         )))).none
 
     below_seen : (inner' : Inner) (s t : Scope) → Sees S None s t → Reads f inside t → UsesAll S S (inner_stmts (declare_below plain_var inner')) → AllPlain (inner_stmts (declare_below plain_var inner')) →
