@@ -8,7 +8,7 @@ use Rattle.c_semantics.specs.Meaning.SimpleStatements.{Env, function_named}
 use Rattle.c_semantics.specs.Meaning.Statements.{exec_all}
 use Rattle.c_semantics.specs.Loops.IterationTrees.{body}
 use Rattle.c_semantics.specs.Loops.Execution.{Body, push_copies, run_body}
-use Rattle.c_semantics.proofs.FrameNames.{names, SameNames, names_kept, function_names}
+use Rattle.c_semantics.proofs.FrameNames.{names, SameNames, names_kept, function_names, length-names}
 use Rattle.c_semantics.proofs.Grows.{LongerFrame, frames_grow}
 use Rattle.c_semantics.proofs.Invariant.{copies_keep, list_keeps}
 use Rattle.loop_normal.specs.Frames.{above, run_above}
@@ -19,7 +19,7 @@ use Rattle.loop_normal.proofs.Bodies.{body_below, leave_leave}
 use Rattle.loop_normal.proofs.Blocks.{then_done}
 use Rattle.nest_normal.specs.NestTexts.{declares}
 use Rattle.nest_normal.specs.OuterVariables.{Outer, declaration_of, typed, AgreesOn, Given}
-use Rattle.nest_normal.proofs.HiddenCopies.{name_count, hidden_gone}
+use Rattle.nest_normal.proofs.HiddenCopies.{hidden_gone}
 use Rattle.nest_normal.proofs.OuterLists.{visible, declares_some}
 
 -- a list of statements takes no variable away
@@ -28,7 +28,7 @@ list_grows n env as' s =
     let r = (exec_all n env as' s).state in
     let h = list_keeps SameNames names_kept n env (λ x. function_names (function_named x env.functions)) as' s in
     let e : length r.frame ≡ length h.0 + length s.frame =
-    sym (name_count r.frame) ∙ ap length h.1 ∙ length-append h.0 (names s.frame) ∙ ap (λ k. length h.0 + k) (name_count s.frame) in
+    sym (length-names r.frame) ∙ ap length h.1 ∙ length-append h.0 (names s.frame) ∙ ap (λ k. length h.0 + k) (length-names s.frame) in
     omega (arith, e)
 
 -- a variable that isn't fresh hides nothing that is

@@ -9,5 +9,4 @@ pub mod CountedWithin
 pub mod HiddenNames
 pub mod Shown
 pub mod Lists
-pub mod Assembled
 pub mod Depths

@@ -4,4 +4,3 @@ pub mod NestDenotes
 pub mod KnownCounts
 pub mod Laws
 pub mod Outlines
-pub mod Assembly

@@ -1,32 +1,18 @@
 //! A loop of a nest with its known count as its end.
 
 ghost use Rattle.std.specs.Prelude.{◌≡◌, ◌⊎◌, IfOk, OnErr, OnOk};
-ghost use Rattle.c_tree.specs.BareOf.{bare_expr};
 ghost use Rattle.loop_normal.specs.GenOf.{bare_gen, bare_loop, bare_parts};
 ghost use Rattle.loop_normal.specs.Templates.{fixed, on_first};
-ghost use Rattle.loop_normal.specs.Templates as l;
 ghost use Rattle.nest_normal.specs.NestTexts as t;
 
 use c_tree::boxed::Boxed;
 use c_tree::name::Name;
-use c_tree::tree::{BinOp, Expr, Ty};
+use c_tree::tree::{BinOp, Ty};
 use loop_normal::fresh::Fresh;
 use loop_normal::generated::{Gen, GenBody, GenLoop, GenPart, PartList};
 use loop_normal::pieces::{binary, declaration, literal, no_parts, part_before, read, split_first};
-use loop_normal::ranges::with_let;
+use loop_normal::ranges::{is_zero_literal, with_let};
 use std::alloc::{AllocError, Global};
-
-fn is_zero_literal(e: &Expr) -> bool
-    ensures { result ≡ l.is_zero_literal (bare_expr e.now) }
-{
-    match e {
-        Expr::Num { value, ty, .. } => match ty {
-            Ty::Long => *value == 0,
-            Ty::Int => false,
-        },
-        _ => false,
-    }
-}
 
 /// Whether no loop is that many loops down, or one that begins at the literal 0.
 #[tactic(auto, using(crate::proofs::Depths::depths))]

@@ -4,4 +4,6 @@
 pub mod known_count;
 pub mod laws;
 pub mod round;
+#[cfg(test)]
+mod tests;
 mod variables;
