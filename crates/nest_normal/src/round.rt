@@ -1,17 +1,16 @@
 //! The normal form of a loop round a nest.
 
 ghost use Rattle.std.specs.Prelude.{◌≡◌, IfOk, OnOk};
-ghost use Rattle.c_tree.specs.Bare as b;
 ghost use Rattle.c_tree.specs.BareOf.{bare_stmt};
 ghost use Rattle.loop_normal.specs.DrawnNames as names;
-ghost use Rattle.loop_normal.specs.Gens.{Nest, gen_loop};
 ghost use Rattle.loop_normal.specs.GenOf.{bare_gen, bare_loop, bare_parts};
 ghost use Rattle.loop_normal.specs.SourceOf.{source_of};
-ghost use Rattle.loop_normal.specs.Templates.{ll, on_first};
-ghost use Rattle.nest_normal.specs.NestTexts.{declare_in, nest_round};
+ghost use Rattle.loop_normal.specs.Templates.{on_first};
+ghost use Rattle.nest_normal.specs.NestTexts.{counted_round, nest_round};
 
 use crate::variables::declare_in;
 use c_tree::boxed::Boxed;
+use c_tree::name::Name;
 use c_tree::tree::Stmt;
 use loop_normal::fresh::Fresh;
 use loop_normal::generated::{Gen, GenBody, GenLoop, GenPart, PartList};
@@ -26,18 +25,19 @@ use std::alloc::{AllocError, Global};
 /// The loop round a nest, with its variable declared below the innermost loop.
 fn loop_round(
     alloc: Global,
-    names: &LoopNames,
+    counter: Name,
+    count: Name,
     variable: Stmt,
     nest: GenLoop,
 ) -> Result<GenLoop, AllocError>
-    ensures { IfOk result (λ answer. bare_loop answer ≡ gen_loop b.no_stmts names.now.counter (ll 0) (b.read names.now.count) (Nest (declare_in (bare_stmt variable) (bare_loop nest)))) }
+    ensures { IfOk result (λ answer. bare_loop answer ≡ counted_round counter count (bare_stmt variable) (bare_loop nest)) }
 {
     let nest = declare_in(alloc, variable, nest)?;
     Ok(GenLoop {
         lets: no_stmts(alloc),
-        counter: names.counter.copy(alloc)?,
+        counter,
         from: literal(0),
-        to: read(alloc, &names.count)?,
+        to: read(alloc, &count)?,
         inner: GenBody::Nest(Boxed::new(alloc, nest)?),
     })
 }
@@ -45,11 +45,12 @@ fn loop_round(
 /// The loop round the first part, where that is a nest.
 fn first_round(
     alloc: Global,
-    names: &LoopNames,
-    variable: Stmt,
     parts: PartList,
+    counter: Name,
+    count: Name,
+    variable: Stmt,
 ) -> Result<PartList, AllocError>
-    ensures { IfOk result (λ answer. bare_parts answer ≡ on_first (λ nest. gen_loop b.no_stmts names.now.counter (ll 0) (b.read names.now.count) (Nest (declare_in (bare_stmt variable) nest))) (bare_parts parts)) }
+    ensures { IfOk result (λ answer. bare_parts answer ≡ on_first (counted_round counter count (bare_stmt variable)) (bare_parts parts)) }
 {
     let (first, rest) = match split_first(parts) {
         None => return Ok(no_parts(alloc)),
@@ -57,7 +58,7 @@ fn first_round(
     };
     match first {
         GenPart::Loop(nest) => {
-            let looped = loop_round(alloc, names, variable, nest.into_inner())?;
+            let looped = loop_round(alloc, counter, count, variable, nest.into_inner())?;
             part_before(GenPart::Loop(Boxed::new(alloc, looped)?), rest)
         }
         GenPart::Plain(list) => part_before(GenPart::Plain(list), rest),
@@ -102,6 +103,12 @@ pub fn normal_round(
     };
     let Gen { front, parts } = inner;
     let front = bounds_front(alloc, &drawn, range, front)?;
-    let parts = first_round(alloc, &drawn, variable, parts)?;
+    let LoopNames {
+        begin: _,
+        end: _,
+        count,
+        counter,
+    } = drawn;
+    let parts = first_round(alloc, parts, counter, count, variable)?;
     Ok(Gen { front, parts })
 }
