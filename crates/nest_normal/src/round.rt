@@ -25,14 +25,14 @@ use std::alloc::{AllocError, Global};
 /// The loop round a nest, with its variable declared below the innermost loop.
 fn loop_round(
     alloc: Global,
+    nest: GenLoop,
     counter: Name,
     count: Name,
     variable: Stmt,
-    nest: GenLoop,
 ) -> Result<GenLoop, AllocError>
     ensures { IfOk result (λ answer. bare_loop answer ≡ counted_round counter count (bare_stmt variable) (bare_loop nest)) }
 {
-    let nest = declare_in(alloc, variable, nest)?;
+    let nest = declare_in(alloc, nest, variable)?;
     Ok(GenLoop {
         lets: no_stmts(alloc),
         counter,
@@ -58,7 +58,7 @@ fn first_round(
     };
     match first {
         GenPart::Loop(nest) => {
-            let looped = loop_round(alloc, counter, count, variable, nest.into_inner())?;
+            let looped = loop_round(alloc, nest.into_inner(), counter, count, variable)?;
             part_before(GenPart::Loop(Boxed::new(alloc, looped)?), rest)
         }
         GenPart::Plain(list) => part_before(GenPart::Plain(list), rest),

@@ -35,7 +35,6 @@ fn declares(mut stmts: &[Stmt], name: &Name) -> bool
     false
 }
 
-#[tactic(auto, using(crate::proofs::Lists::declaring))]
 fn part_declares(part: &GenPart, name: &Name) -> bool
     ensures { result ≡ t.declares name.now (part_stmts (bare_part part.now)) }
 {
@@ -81,7 +80,7 @@ fn put_visible(alloc: Global, stmt: Stmt, parts: PartList) -> Result<PartList, A
 
 /// A declaration below the innermost loop of a nest, unless it is hidden there.
 #[cycle(declaring)]
-pub(crate) fn declare_in(alloc: Global, stmt: Stmt, looped: GenLoop) -> Result<GenLoop, AllocError>
+pub(crate) fn declare_in(alloc: Global, looped: GenLoop, stmt: Stmt) -> Result<GenLoop, AllocError>
     ensures { IfOk result (λ answer. bare_loop answer ≡ t.declare_in (bare_stmt stmt) (bare_loop looped)) }
 {
     let GenLoop {
@@ -91,7 +90,7 @@ pub(crate) fn declare_in(alloc: Global, stmt: Stmt, looped: GenLoop) -> Result<G
         to,
         inner,
     } = looped;
-    let inner = declare_below(alloc, stmt, inner)?;
+    let inner = declare_below(alloc, inner, stmt)?;
     Ok(GenLoop {
         lets,
         counter,
@@ -102,12 +101,12 @@ pub(crate) fn declare_in(alloc: Global, stmt: Stmt, looped: GenLoop) -> Result<G
 }
 
 #[cycle(declaring)]
-fn declare_below(alloc: Global, stmt: Stmt, inner: GenBody) -> Result<GenBody, AllocError>
+fn declare_below(alloc: Global, inner: GenBody, stmt: Stmt) -> Result<GenBody, AllocError>
     ensures { IfOk result (λ answer. bare_body answer ≡ t.declare_below (bare_stmt stmt) (bare_body inner)) }
 {
     match inner {
         GenBody::Nest(looped) => {
-            let looped = declare_in(alloc, stmt, looped.into_inner())?;
+            let looped = declare_in(alloc, looped.into_inner(), stmt)?;
             Ok(GenBody::Nest(Boxed::new(alloc, looped)?))
         }
         GenBody::Seq(parts) => Ok(GenBody::Seq(put_visible(alloc, stmt, parts)?)),
