@@ -75,6 +75,37 @@ for (long long i = -9223372036854775807; i >= -9223372036854775807 - 1; i--) pri
 #pragma omp reverse
 for (long long i = 9223372036854775807; i >= 0; i -= 9223372036854775807) print(i);' \
     '2147483647 2147483646 2147483646 -1 -2147483648 9223372036854775807 9223372036854775806 -9223372036854775808 -9223372036854775807 0 9223372036854775807'
+in_main items '#pragma omp reverse apply(reverse)
+for (int i = 0; i < 3; i++) print(i);
+#pragma omp reverse apply(reversed: reverse apply(reverse))
+for (long long i = 20; i >= 0; i -= 7) print(i);
+#pragma omp reverse apply(reversed(1): nothing)
+for (int i = 0; i < 3; i++) print(i);' '0 1 2 6 13 20 2 1 0'
+in_main stacks_with_items '#pragma omp reverse
+{
+#pragma omp reverse apply(reverse apply(reverse))
+{ for (int i = 0; i < 4; i++) { if (i == 1) continue; print(i); } }
+}
+#pragma omp reverse apply(nothing)
+#pragma omp reverse apply(reversed: reverse)
+#pragma omp reverse
+for (long long i = 3; i != 0; i--) print(i);' '0 2 3 3 2 1'
+in_main most_directives "$(printf '#pragma omp reverse\n%.0s' {1..18})
+for (int i = 0; i < 5; i++) print(i);" '0 1 2 3 4'
+in_main variables_outside 'int i = 9, j = 8;
+long long n = 4;
+#pragma omp reverse
+for (i = 0; i < 3; i++) print(i);
+print(i);
+while (n > 2) {
+#pragma omp reverse apply(reversed: reverse)
+for (i = 1; i <= n; i += 2) {
+#pragma omp reverse
+for (j = i; j > i - 2; j--) print(10 * i + j);
+}
+n--;
+}
+print(i + j);' '2 1 0 9 10 11 32 33 10 11 32 33 17'
 in_main nested '#pragma omp reverse
 for (int i = 0; i < 2; i++) {
     if (i) {

@@ -4,10 +4,12 @@ use Rattle.c_tree.specs.Bare.{Top, define, extern_, global, function, main, Prog
 use Rattle.c_tree.specs.BareOf.{bare_top}
 use Rattle.c_tree.specs.WellFormed.{WellFormedTop, WellFormedTops}
 use Rattle.c_tree.specs.declared.tree.Item.{Item}
+use Rattle.c_semantics.specs.Meaning.State.{State}
 use Rattle.c_semantics.specs.Meaning.Expressions.{Define}
+use Rattle.c_scopes.specs.Laws.{scope_with}
 use Rattle.c_semantics.specs.Meaning.FileVariables.{defines_with}
 use Rattle.loop_normal.specs.DrawnNames.{FreshNames}
-use Rattle.apply_rewrite.specs.CarriedOut.{carried_top, carried_items}
+use Rattle.carried_out.specs.CarriedOut.{carried_top, carried_items}
 
 -- the defines after some items
 abbrev pub defines_after : List Define → Program → List Define
@@ -18,23 +20,34 @@ pub defines_more : (ds : List Define) (xs : List Item) (x : Item) → defines_af
 defines_more ds [] x = refl
 defines_more ds (y ∷ xs) x = defines_more (defines_with ds (bare_top y)) xs x
 
-pub tops_more : (ds : List Define) (xs : List Item) (x : Item) (f : FreshNames) →
-    (carried_items ds (map bare_top (xs ++ x ∷ [])) f).tree ≡ (carried_items ds (map bare_top xs) f).tree ++ (carried_top (defines_after ds (map bare_top xs)) (bare_top x) (carried_items ds (map bare_top xs) f).left).tree ∷ []
-tops_more ds [] x f = refl
-tops_more ds (y ∷ xs) x f = ap (λ js. (carried_top ds (bare_top y) f).tree ∷ js) (tops_more (defines_with ds (bare_top y)) xs x (carried_top ds (bare_top y) f).left)
+-- what is visible after some items
+abbrev pub scopes_after : State → Program → State
+scopes_after s [] = s
+scopes_after s (i ∷ is) = scopes_after (scope_with s i) is
 
-pub tops_left_more : (ds : List Define) (xs : List Item) (x : Item) (f : FreshNames) →
-    (carried_items ds (map bare_top (xs ++ x ∷ [])) f).left ≡ (carried_top (defines_after ds (map bare_top xs)) (bare_top x) (carried_items ds (map bare_top xs) f).left).left
-tops_left_more ds [] x f = refl
-tops_left_more ds (y ∷ xs) x f = tops_left_more (defines_with ds (bare_top y)) xs x (carried_top ds (bare_top y) f).left
+pub scopes_more : (s : State) (xs : List Item) (x : Item) → scopes_after s (map bare_top (xs ++ x ∷ [])) ≡ scope_with (scopes_after s (map bare_top xs)) (bare_top x)
+scopes_more s [] x = refl
+scopes_more s (y ∷ xs) x = scopes_more (scope_with s (bare_top y)) xs x
 
--- a define has no constructs, and no other item adds one
-pub top_same : (ds : List Define) (i : Top) (f : FreshNames) → carried_top (defines_with ds i) i f ≡ carried_top ds i f
-top_same ds (define x minus k t) f = refl
-top_same ds (extern_ p) f = refl
-top_same ds (global t x dims e) f = refl
-top_same ds (function x ps a) f = refl
-top_same ds (main a) f = refl
+pub tops_more : (ds : List Define) (s : State) (xs : List Item) (x : Item) (f : FreshNames) →
+    (carried_items ds s (map bare_top (xs ++ x ∷ [])) f).tree
+    ≡ (carried_items ds s (map bare_top xs) f).tree ++ (carried_top (defines_after ds (map bare_top xs)) (scopes_after s (map bare_top xs)) (bare_top x) (carried_items ds s (map bare_top xs) f).left).tree ∷ []
+tops_more ds s [] x f = refl
+tops_more ds s (y ∷ xs) x f = ap (λ js. (carried_top ds s (bare_top y) f).tree ∷ js) (tops_more (defines_with ds (bare_top y)) (scope_with s (bare_top y)) xs x (carried_top ds s (bare_top y) f).left)
+
+pub tops_left_more : (ds : List Define) (s : State) (xs : List Item) (x : Item) (f : FreshNames) →
+    (carried_items ds s (map bare_top (xs ++ x ∷ [])) f).left
+    ≡ (carried_top (defines_after ds (map bare_top xs)) (scopes_after s (map bare_top xs)) (bare_top x) (carried_items ds s (map bare_top xs) f).left).left
+tops_left_more ds s [] x f = refl
+tops_left_more ds s (y ∷ xs) x f = tops_left_more (defines_with ds (bare_top y)) (scope_with s (bare_top y)) xs x (carried_top ds s (bare_top y) f).left
+
+-- a define and a variable have no constructs, and no other item adds one
+pub top_same : (ds : List Define) (s : State) (i : Top) (f : FreshNames) → carried_top (defines_with ds i) (scope_with s i) i f ≡ carried_top ds s i f
+top_same ds s (define x minus k t) f = refl
+top_same ds s (extern_ p) f = refl
+top_same ds s (global t x dims e) f = refl
+top_same ds s (function x ps a) f = refl
+top_same ds s (main a) f = refl
 
 pub mapped_more : (xs : List Item) (x : Item) → map bare_top (xs ++ x ∷ []) ≡ map bare_top xs ++ bare_top x ∷ []
 mapped_more [] x = refl
@@ -47,4 +60,4 @@ pub first_top_formed : (all : List Item) (x : Item) (xs : List Item) → all ≡
     → WellFormedTop (bare_top x) × WellFormedTops (map bare_top xs)
 first_top_formed all x xs is = subst Formed is
 
-pub ruleset carrying_items = (defines_more, tops_more, tops_left_more, top_same, mapped_more, first_top_formed)
+pub ruleset carrying_items = (defines_more, scopes_more, tops_more, tops_left_more, top_same, mapped_more, first_top_formed)

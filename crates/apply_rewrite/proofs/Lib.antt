@@ -1,10 +1,12 @@
+pub mod PlanWalks
+pub mod Scopes
+pub mod Reversals
 pub mod Breaks
 pub mod Stacks
 pub mod Congruent
 pub mod Programs
 pub mod NamesMore
 pub mod HeadNames
-pub mod SpentNames
 pub mod OneLoop
 pub mod CarriedOut
 pub mod Items
@@ -12,8 +14,8 @@ pub mod SourceNames
 pub mod Skeletons
 pub mod WellFormedCode
 pub mod RunsAlike
+pub mod Admitted
 pub mod Gathered
 pub mod StatementMore
 pub mod ItemMore
-pub mod ItemWalks
-pub mod Walks
+pub mod HeldHeads

@@ -1,6 +1,6 @@
 -- What holds of each name of a tree holds of it by whatever follows; and the names of a canonical loop are those of its head.
 use Rattle.std.proofs.Common.{Option, Some, None}
-use Rattle.c_tree.specs.Bare.{Name, Expr, num, read, item, un, bin, cond, cast, Exprs, no_exprs, more_exprs, Target, target, Stmt, decl, set, step, print, input, if_, if_else, while_, do_, for_, block, break_, continue_, empty, omp, call, Stmts, no_stmts, more_stmts, Head, head, MaybeStmt, no_stmt, a_stmt}
+use Rattle.c_tree.specs.Bare.{Name, Expr, num, read, item, un, bin, cond, cast, Exprs, no_exprs, more_exprs, Target, target, Stmt, decl, set, step, print, input, if_, if_else, while_, do_, for_, block, break_, continue_, empty, omp, call, Stmts, no_stmts, more_stmts, head, MaybeStmt, no_stmt, a_stmt}
 use Rattle.c_semantics.specs.Laws.Names.{Names, NamesEach, NamesIf, NamesIn, Uses, UsesAll, UsesIf}
 
 -- any function may be called
@@ -55,10 +55,3 @@ module _ (P Q : Name → Type 0) (more : (x : Name) → P x → Q x) where
     pub part_more : (a : MaybeStmt) → UsesIf P AnyCall a → UsesIf Q AnyCall a
     part_more no_stmt h = tt
     part_more (a_stmt a) h = uses_more a h
-
-  -- of a head
-  abbrev pub HeadUses : (Name → Type 0) → Head → Type 0
-  HeadUses R (head i e next) = UsesIf R AnyCall i × NamesIf R e × UsesIf R AnyCall next
-
-  pub head_more : (h : Head) → HeadUses P h → HeadUses Q h
-  head_more (head i e next) u = (part_more i u.0, if_more e u.1, part_more next u.2)

@@ -1,100 +1,115 @@
 -- Carrying out one statement more, and what a walk over statements by value knows of them.
-use Rattle.std.proofs.Common.{◌≡◌, ◌≢◌, refl, sym, ap, ◌∙◌, subst, ℕ, ◌≤◌, max, Option, Some, None, List, [], ◌∷◌, ◌++◌, length, append_assoc, slice_index_or, arith}
+use Rattle.std.proofs.Common.{◌≡◌, ◌≢◌, refl, sym, ap, ◌∙◌, subst, ℕ, ◌≤◌, max, Some, None, List, [], ◌∷◌, ◌++◌, length, append_assoc, slice_index_or, arith}
 use denote.Param.Weighed.{most, most-append}
 use Rattle.c_tree.specs.Bare as b
 use Rattle.c_tree.specs.Bare.{more_stmts}
-use Rattle.c_tree.specs.BareOf.{bare_expr, bare_stmt, bare_stmts, stmt_layer, head_layer}
+use Rattle.c_tree.specs.BareOf.{bare_stmt, bare_stmts, stmt_layer, head_layer}
 use Rattle.c_tree.specs.WellFormed.{WellFormedStmt, WellFormedStmts}
 use Rattle.c_tree.specs.declared.tree.Directive.{Directive}
-use Rattle.c_tree.specs.declared.tree.Expr.{Expr}
 use Rattle.c_tree.specs.declared.tree.ForHead.{ForHead}
 use Rattle.c_tree.specs.declared.tree.Span.{Span}
 use Rattle.c_tree.specs.declared.tree.Stmt.{Stmt, Stmt-F, roll-Stmt, out-Stmt, roll-out-Stmt, fold-roll-Stmt}
 use Rattle.c_tree.specs.declared.tree.Stmt.TheVariants as v
-use Rattle.c_tree.specs.declared.tree.Stmt.TheOpen as s
+use Rattle.c_tree.specs.declared.tree.Stmt.TheOpen as layer
+use Rattle.c_semantics.specs.Meaning.State.{State}
 use Rattle.c_semantics.specs.Meaning.Expressions.{Define}
+use Rattle.c_semantics.specs.Structure.Skeleton.{scope_after}
 use Rattle.loop_normal.specs.Gens.{join}
 use Rattle.loop_normal.specs.Templates.{only}
 use Rattle.loop_normal.specs.DrawnNames.{FreshNames}
 use Rattle.loop_normal.proofs.Trees.{stmts_join}
-use Rattle.apply_rewrite.specs.CarriedOut.{carried, carried_all, nest, nest_in, no_code}
+use Rattle.apply_rewrite.proofs.Scopes.{all_after}
+use Rattle.carried_out.specs.CarriedOut.{carried, carried_all, nest, nest_in, no_code}
 
 done_more : (done : List Stmt) (y : Stmt) → bare_stmts (done ++ y ∷ []) ≡ join (bare_stmts done) (only (bare_stmt y))
 done_more done y = stmts_join done (y ∷ [])
 
-bare_two : (e : Expr) (ts es : List Stmt) (at : Span) → bare_stmt (v.If e ts (Some es) at) ≡ b.if_else (bare_expr e) (bare_stmts ts) (bare_stmts es)
-bare_two e ts es at = ap bare_stmt (sym (v.rolls-If e ts (Some es) at)) ∙ fold-roll-Stmt b.Stmt b.Head stmt_layer head_layer (s.If e ts (Some es) at)
+-- what is visible after a list and one statement more
+after_more : (xs : List Stmt) (x : Stmt) (s : State) → all_after (bare_stmts (xs ++ x ∷ [])) s ≡ scope_after (bare_stmt x) (all_after (bare_stmts xs) s)
+after_more [] x s = refl
+after_more (y ∷ xs) x s = after_more xs x (scope_after (bare_stmt y) s)
 
 module _ (ds : List Define) where
-  tree_more : (xs : List Stmt) (x : Stmt) (f : FreshNames) →
-      (carried_all ds (bare_stmts (xs ++ x ∷ [])) f).tree ≡ join (carried_all ds (bare_stmts xs) f).tree (only (carried ds (bare_stmt x) (carried_all ds (bare_stmts xs) f).left).tree)
-  tree_more [] x f = refl
-  tree_more (y ∷ xs) x f = ap (more_stmts (carried ds (bare_stmt y) f).tree) (tree_more xs x (carried ds (bare_stmt y) f).left)
+  -- a declaration stays one, and nothing else becomes one
+  carried_after : (s : State) (a : b.Stmt) (f : FreshNames) (u : State) → scope_after (carried ds s a f).tree u ≡ scope_after a u
+  carried_after s (b.decl t x e) f u = refl
+  carried_after s (b.set t op e) f u = refl
+  carried_after s (b.step t up) f u = refl
+  carried_after s (b.print e) f u = refl
+  carried_after s (b.input t) f u = refl
+  carried_after s (b.if_ e a) f u = refl
+  carried_after s (b.if_else e a c) f u = refl
+  carried_after s (b.while_ e a) f u = refl
+  carried_after s (b.do_ a e) f u = refl
+  carried_after s (b.for_ h a) f u = refl
+  carried_after s (b.block a) f u = refl
+  carried_after s b.break_ f u = refl
+  carried_after s b.continue_ f u = refl
+  carried_after s b.empty f u = refl
+  carried_after s (b.omp d a) f u = refl
+  carried_after s (b.call x es) f u = refl
 
-  left_more : (xs : List Stmt) (x : Stmt) (f : FreshNames) →
-      (carried_all ds (bare_stmts (xs ++ x ∷ [])) f).left ≡ (carried ds (bare_stmt x) (carried_all ds (bare_stmts xs) f).left).left
-  left_more [] x f = refl
-  left_more (y ∷ xs) x f = left_more xs x (carried ds (bare_stmt y) f).left
+  tree_more : (s : State) (xs : List Stmt) (x : Stmt) (f : FreshNames) →
+      (carried_all ds s (bare_stmts (xs ++ x ∷ [])) f).tree ≡ join (carried_all ds s (bare_stmts xs) f).tree (only (carried ds (all_after (bare_stmts xs) s) (bare_stmt x) (carried_all ds s (bare_stmts xs) f).left).tree)
+  tree_more s [] x f = refl
+  tree_more s (y ∷ xs) x f = ap (more_stmts (carried ds s (bare_stmt y) f).tree) (tree_more (scope_after (bare_stmt y) s) xs x (carried ds s (bare_stmt y) f).left)
 
-  -- what is done after one statement more, and the names that are left
-  pub tree_step : (xs : List Stmt) (x : Stmt) (f g : FreshNames) (done after : List Stmt) (y : Stmt) →
-      bare_stmts done ≡ (carried_all ds (bare_stmts xs) f).tree → g ≡ (carried_all ds (bare_stmts xs) f).left → bare_stmt y ≡ (carried ds (bare_stmt x) g).tree → after ≡ done ++ y ∷ [] →
-      bare_stmts after ≡ (carried_all ds (bare_stmts (xs ++ x ∷ [])) f).tree
-  tree_step xs x f g done after y so left one e =
-      ap bare_stmts e ∙ done_more done y ∙ ap (λ a. join a (only (bare_stmt y))) so
-      ∙ ap (λ a. join (carried_all ds (bare_stmts xs) f).tree (only a)) (one ∙ ap (λ h. (carried ds (bare_stmt x) h).tree) left)
-      ∙ sym (tree_more xs x f)
+  left_more : (s : State) (xs : List Stmt) (x : Stmt) (f : FreshNames) →
+      (carried_all ds s (bare_stmts (xs ++ x ∷ [])) f).left ≡ (carried ds (all_after (bare_stmts xs) s) (bare_stmt x) (carried_all ds s (bare_stmts xs) f).left).left
+  left_more s [] x f = refl
+  left_more s (y ∷ xs) x f = left_more (scope_after (bare_stmt y) s) xs x (carried ds s (bare_stmt y) f).left
 
-  pub left_step : (xs : List Stmt) (x : Stmt) (f g h : FreshNames) →
-      g ≡ (carried_all ds (bare_stmts xs) f).left → h ≡ (carried ds (bare_stmt x) g).left → h ≡ (carried_all ds (bare_stmts (xs ++ x ∷ [])) f).left
-  left_step xs x f g h left one = one ∙ ap (λ k. (carried ds (bare_stmt x) k).left) left ∙ sym (left_more xs x f)
+  -- what is done after one statement more, the names that are left, and what is visible
+  module _ (s u : State) (xs : List Stmt) (x : Stmt) (f g : FreshNames) (seen : u ≡ all_after (bare_stmts xs) s) (left : g ≡ (carried_all ds s (bare_stmts xs) f).left) where
+    pub tree_step : (done after : List Stmt) (y : Stmt) →
+        bare_stmts done ≡ (carried_all ds s (bare_stmts xs) f).tree → bare_stmt y ≡ (carried ds u (bare_stmt x) g).tree → after ≡ done ++ y ∷ [] →
+        bare_stmts after ≡ (carried_all ds s (bare_stmts (xs ++ x ∷ [])) f).tree
+    tree_step done after y so one e =
+        ap bare_stmts e ∙ done_more done y ∙ ap (λ a. join a (only (bare_stmt y))) so
+        ∙ ap (λ a. join (carried_all ds s (bare_stmts xs) f).tree (only a)) (one ∙ (λ i. (carried ds (seen i) (bare_stmt x) (left i)).tree))
+        ∙ sym (tree_more s xs x f)
 
-  -- both branches of an `if`
-  pub both : (stmt : Stmt) (e : Expr) (ts es : List Stmt) (branch : Option (List Stmt)) (at : Span) (f g : FreshNames) (ts' es' : List Stmt) →
-      stmt ≡ v.If e ts branch at → branch ≡ Some es → bare_stmts ts' ≡ (carried_all ds (bare_stmts ts) f).tree → g ≡ (carried_all ds (bare_stmts ts) f).left → bare_stmts es' ≡ (carried_all ds (bare_stmts es) g).tree →
-      bare_stmt (v.If e ts' (Some es') at) ≡ (carried ds (bare_stmt stmt) f).tree
-  both stmt e ts es branch at f g ts' es' is some first left second =
-      bare_two e ts' es' at ∙ ap (λ a. b.if_else (bare_expr e) a (bare_stmts es')) first
-      ∙ ap (λ a. b.if_else (bare_expr e) (carried_all ds (bare_stmts ts) f).tree a) (second ∙ ap (λ h. (carried_all ds (bare_stmts es) h).tree) left)
-      ∙ ap (λ a. (carried ds a f).tree) (sym (ap bare_stmt (is ∙ ap (λ o. v.If e ts o at) some) ∙ bare_two e ts es at))
+    pub left_step : (h : FreshNames) → h ≡ (carried ds u (bare_stmt x) g).left → h ≡ (carried_all ds s (bare_stmts (xs ++ x ∷ [])) f).left
+    left_step h one = one ∙ (λ i. (carried ds (seen i) (bare_stmt x) (left i)).left) ∙ sym (left_more s xs x f)
 
-  -- a list that is not one statement leads to no loop, and one statement leads where it leads itself
-  pub nest_other : (xs : List Stmt) (f : FreshNames) → length xs ≢ 1 → nest ds (bare_stmts xs) f ≡ no_code f
-  nest_other [] f many = refl
-  nest_other (x ∷ []) f many = absurd (many refl)
-  nest_other (x ∷ y ∷ xs) f many = refl
+    pub scope_step : (w : State) (y : Stmt) → bare_stmt y ≡ (carried ds u (bare_stmt x) g).tree → w ≡ scope_after (bare_stmt y) u → w ≡ all_after (bare_stmts (xs ++ x ∷ [])) s
+    scope_step w y one e =
+        e ∙ ap (λ a. scope_after a u) one ∙ carried_after u (bare_stmt x) g u ∙ ap (scope_after (bare_stmt x)) seen ∙ sym (after_more xs x s)
 
-  pub nest_alone : (xs : List Stmt) (x : Stmt) (f : FreshNames) → xs ≡ x ∷ [] → nest ds (bare_stmts xs) f ≡ nest_in ds (bare_stmt x) f
-  nest_alone xs x f e = ap (λ ys. nest ds (bare_stmts ys) f) e
+  -- a list that is not one statement leads to no loop
+  pub nest_other : (s : State) (xs : List Stmt) (f : FreshNames) → length xs ≢ 1 → nest ds s (bare_stmts xs) f ≡ no_code f
+  nest_other s [] f many = refl
+  nest_other s (x ∷ []) f many = absurd (many refl)
+  nest_other s (x ∷ y ∷ xs) f many = refl
 
-  other_layer : (x : Stmt-F Stmt ForHead) (f : FreshNames) →
+  other_layer : (s : State) (x : Stmt-F Stmt ForHead) (f : FreshNames) →
       ((h : ForHead) (ts : List Stmt) (at : Span) → roll-Stmt x ≡ v.For h ts at → ⊥) → ((ts : List Stmt) (at : Span) → roll-Stmt x ≡ v.Block ts at → ⊥) →
-      ((d : Directive) (ts : List Stmt) (at : Span) → roll-Stmt x ≡ v.Omp d ts at → ⊥) → nest_in ds (bare_stmt (roll-Stmt x)) f ≡ no_code f
-  other_layer (s.For h ts sp) f no_loop no_block no_omp = absurd (no_loop h ts sp (v.rolls-For h ts sp))
-  other_layer (s.Block ts sp) f no_loop no_block no_omp = absurd (no_block ts sp (v.rolls-Block ts sp))
-  other_layer (s.Omp d ts sp) f no_loop no_block no_omp = absurd (no_omp d ts sp (v.rolls-Omp d ts sp))
-  other_layer (s.Decl ty x at init sp) f no_loop no_block no_omp = ap (λ a. nest_in ds a f) (fold-roll-Stmt b.Stmt b.Head stmt_layer head_layer (s.Decl ty x at init sp))
-  other_layer (s.Set t op e sp) f no_loop no_block no_omp = ap (λ a. nest_in ds a f) (fold-roll-Stmt b.Stmt b.Head stmt_layer head_layer (s.Set t op e sp))
-  other_layer (s.Step t up sp) f no_loop no_block no_omp = ap (λ a. nest_in ds a f) (fold-roll-Stmt b.Stmt b.Head stmt_layer head_layer (s.Step t up sp))
-  other_layer (s.Print e sp) f no_loop no_block no_omp = ap (λ a. nest_in ds a f) (fold-roll-Stmt b.Stmt b.Head stmt_layer head_layer (s.Print e sp))
-  other_layer (s.Input t at sp) f no_loop no_block no_omp = ap (λ a. nest_in ds a f) (fold-roll-Stmt b.Stmt b.Head stmt_layer head_layer (s.Input t at sp))
-  other_layer (s.If e ts None sp) f no_loop no_block no_omp = ap (λ a. nest_in ds a f) (fold-roll-Stmt b.Stmt b.Head stmt_layer head_layer (s.If e ts None sp))
-  other_layer (s.If e ts (Some es) sp) f no_loop no_block no_omp = ap (λ a. nest_in ds a f) (fold-roll-Stmt b.Stmt b.Head stmt_layer head_layer (s.If e ts (Some es) sp))
-  other_layer (s.While e ts sp) f no_loop no_block no_omp = ap (λ a. nest_in ds a f) (fold-roll-Stmt b.Stmt b.Head stmt_layer head_layer (s.While e ts sp))
-  other_layer (s.Do ts e sp) f no_loop no_block no_omp = ap (λ a. nest_in ds a f) (fold-roll-Stmt b.Stmt b.Head stmt_layer head_layer (s.Do ts e sp))
-  other_layer (s.Break sp) f no_loop no_block no_omp = ap (λ a. nest_in ds a f) (fold-roll-Stmt b.Stmt b.Head stmt_layer head_layer (s.Break sp))
-  other_layer (s.Continue sp) f no_loop no_block no_omp = ap (λ a. nest_in ds a f) (fold-roll-Stmt b.Stmt b.Head stmt_layer head_layer (s.Continue sp))
-  other_layer (s.Empty sp) f no_loop no_block no_omp = ap (λ a. nest_in ds a f) (fold-roll-Stmt b.Stmt b.Head stmt_layer head_layer (s.Empty sp))
-  other_layer (s.Call x at args sp) f no_loop no_block no_omp = ap (λ a. nest_in ds a f) (fold-roll-Stmt b.Stmt b.Head stmt_layer head_layer (s.Call x at args sp))
+      ((d : Directive) (ts : List Stmt) (at : Span) → roll-Stmt x ≡ v.Omp d ts at → ⊥) → nest_in ds s (bare_stmt (roll-Stmt x)) f ≡ no_code f
+  other_layer s (layer.For h ts sp) f no_loop no_block no_omp = absurd (no_loop h ts sp (v.rolls-For h ts sp))
+  other_layer s (layer.Block ts sp) f no_loop no_block no_omp = absurd (no_block ts sp (v.rolls-Block ts sp))
+  other_layer s (layer.Omp d ts sp) f no_loop no_block no_omp = absurd (no_omp d ts sp (v.rolls-Omp d ts sp))
+  other_layer s (layer.Decl ty x at init sp) f no_loop no_block no_omp = ap (λ a. nest_in ds s a f) (fold-roll-Stmt b.Stmt b.Head stmt_layer head_layer (layer.Decl ty x at init sp))
+  other_layer s (layer.Set t op e sp) f no_loop no_block no_omp = ap (λ a. nest_in ds s a f) (fold-roll-Stmt b.Stmt b.Head stmt_layer head_layer (layer.Set t op e sp))
+  other_layer s (layer.Step t up sp) f no_loop no_block no_omp = ap (λ a. nest_in ds s a f) (fold-roll-Stmt b.Stmt b.Head stmt_layer head_layer (layer.Step t up sp))
+  other_layer s (layer.Print e sp) f no_loop no_block no_omp = ap (λ a. nest_in ds s a f) (fold-roll-Stmt b.Stmt b.Head stmt_layer head_layer (layer.Print e sp))
+  other_layer s (layer.Input t at sp) f no_loop no_block no_omp = ap (λ a. nest_in ds s a f) (fold-roll-Stmt b.Stmt b.Head stmt_layer head_layer (layer.Input t at sp))
+  other_layer s (layer.If e ts None sp) f no_loop no_block no_omp = ap (λ a. nest_in ds s a f) (fold-roll-Stmt b.Stmt b.Head stmt_layer head_layer (layer.If e ts None sp))
+  other_layer s (layer.If e ts (Some es) sp) f no_loop no_block no_omp = ap (λ a. nest_in ds s a f) (fold-roll-Stmt b.Stmt b.Head stmt_layer head_layer (layer.If e ts (Some es) sp))
+  other_layer s (layer.While e ts sp) f no_loop no_block no_omp = ap (λ a. nest_in ds s a f) (fold-roll-Stmt b.Stmt b.Head stmt_layer head_layer (layer.While e ts sp))
+  other_layer s (layer.Do ts e sp) f no_loop no_block no_omp = ap (λ a. nest_in ds s a f) (fold-roll-Stmt b.Stmt b.Head stmt_layer head_layer (layer.Do ts e sp))
+  other_layer s (layer.Break sp) f no_loop no_block no_omp = ap (λ a. nest_in ds s a f) (fold-roll-Stmt b.Stmt b.Head stmt_layer head_layer (layer.Break sp))
+  other_layer s (layer.Continue sp) f no_loop no_block no_omp = ap (λ a. nest_in ds s a f) (fold-roll-Stmt b.Stmt b.Head stmt_layer head_layer (layer.Continue sp))
+  other_layer s (layer.Empty sp) f no_loop no_block no_omp = ap (λ a. nest_in ds s a f) (fold-roll-Stmt b.Stmt b.Head stmt_layer head_layer (layer.Empty sp))
+  other_layer s (layer.Call x at args sp) f no_loop no_block no_omp = ap (λ a. nest_in ds s a f) (fold-roll-Stmt b.Stmt b.Head stmt_layer head_layer (layer.Call x at args sp))
 
   -- only a loop, a block and a directive lead to loops
-  pub nowhere : (stmt : Stmt) (f : FreshNames) →
+  pub nowhere : (s : State) (stmt : Stmt) (f : FreshNames) →
       ((h : ForHead) (ts : List Stmt) (at : Span) → stmt ≡ v.For h ts at → ⊥) → ((ts : List Stmt) (at : Span) → stmt ≡ v.Block ts at → ⊥) →
-      ((d : Directive) (ts : List Stmt) (at : Span) → stmt ≡ v.Omp d ts at → ⊥) → nest_in ds (bare_stmt stmt) f ≡ no_code f
-  nowhere stmt f no_loop no_block no_omp =
+      ((d : Directive) (ts : List Stmt) (at : Span) → stmt ≡ v.Omp d ts at → ⊥) → nest_in ds s (bare_stmt stmt) f ≡ no_code f
+  nowhere s stmt f no_loop no_block no_omp =
       let rolled = sym (roll-out-Stmt stmt) in
-      ap (λ z. nest_in ds (bare_stmt z) f) rolled
-      ∙ other_layer (out-Stmt stmt) f (λ h ts at e. no_loop h ts at (rolled ∙ e)) (λ ts at e. no_block ts at (rolled ∙ e)) (λ d ts at e. no_omp d ts at (rolled ∙ e))
+      ap (λ z. nest_in ds s (bare_stmt z) f) rolled
+      ∙ other_layer s (out-Stmt stmt) f (λ h ts at e. no_loop h ts at (rolled ∙ e)) (λ ts at e. no_block ts at (rolled ∙ e)) (λ d ts at e. no_omp d ts at (rolled ∙ e))
 
 -- ---- what a loop over statements by value has left
 
@@ -113,9 +128,6 @@ next_no_larger size xs x ys all e =
 pub next_whole : (xs : List Stmt) (x : Stmt) (ys zs all : List Stmt) → all ≡ xs ++ zs → zs ≡ x ∷ ys → all ≡ xs ++ x ∷ [] ++ ys
 next_whole xs x ys zs all e h = e ∙ ap (λ us. xs ++ us) h ∙ sym (append_assoc xs (x ∷ []) ys)
 
-pub first_well_formed : (x : Stmt) (xs all : List Stmt) → all ≡ x ∷ xs → WellFormedStmts (bare_stmts all) → WellFormedStmt (bare_stmt x)
-first_well_formed x xs all e w = (subst (λ zs. WellFormedStmts (bare_stmts zs)) e w).0
-
 -- ---- a list of one
 
 pub one_left : (xs : List Stmt) (x : Stmt) → length xs ≡ 1 → x ≡ slice_index_or xs 0 x → xs ≡ x ∷ []
@@ -124,5 +136,3 @@ one_left (y ∷ []) x h e = ap (λ z. z ∷ []) (sym e)
 one_left (y ∷ z ∷ xs) x h e = absurd (omega (arith, h))
 
 pub ruleset lone = (one_left)
-
-pub ruleset carrying = (nest_alone, first_well_formed)

@@ -2,11 +2,10 @@
 use Rattle.std.proofs.Common.{◌≡◌, refl, sym, ap, ◌∙◌, subst, ℕ, zero, suc, ◌+◌, ◌≤◌, ◌<◌, List, [], ◌∷◌, length, reverse, Option, Some, None, Bool, true, false, ◌&&◌, ◌||◌, not, IsTrue, arith, lit<, lit≤, ◌^◌, ℤ, nat_abs}
 use Rattle.std.specs.Prelude.{is_some, if◌then◌else◌, nat_lt}
 use Rattle.std.specs.List.{list_all}
-use Rattle.std.proofs.lemmas.Bool.{both_ways, ltb-true, le-leb}
+use Rattle.std.proofs.lemmas.Bool.{both_ways, ltb-true, le-leb, and_parts, and_from}
 use Rattle.std.proofs.lemmas.List.{reverse-append}
 use Rattle.std.proofs.lemmas.List.Folds.{list_all-append}
-use Rattle.c_tree.specs.Bare.{Name, Expr, num, read, item, un, bin, cond, cast, no_exprs, more_exprs, target, directive, no_clauses, Stmt, decl, set, step, print, input, if_, if_else, while_, do_, for_, block, break_, continue_, empty, omp, call, Stmts, no_stmts, more_stmts, MaybeStmt, no_stmt, a_stmt, head, Top, define, extern_, global, function, main, Program}
-use Rattle.c_tree.specs.declared.tree.Kind.TheVariants.{Reverse}
+use Rattle.c_tree.specs.Bare.{Name, Expr, num, read, item, un, bin, cond, cast, no_exprs, more_exprs, target, Stmt, decl, set, step, print, input, if_, if_else, while_, do_, for_, block, break_, continue_, empty, omp, call, Stmts, no_stmts, more_stmts, MaybeStmt, no_stmt, a_stmt, head, Top, define, extern_, global, function, main, Program}
 use Rattle.c_tree.specs.declared.tree.Ty.{Ty}
 use Rattle.c_tree.specs.declared.tree.Ty.TheVariants.{Long}
 use Rattle.c_tree.specs.declared.tree.BinOp.{BinOp}
@@ -16,18 +15,24 @@ use Rattle.c_tree.specs.declared.tree.SetOp.TheVariants as to
 use Rattle.c_tree.specs.Constants.{IsHeld}
 use Rattle.c_tree.specs.NameRules.DeclaredNames.{is_among}
 use Rattle.c_tree.specs.WellFormed.{keywords, is_letter, is_digit, IsName, WellFormedExpr, WellFormedOption, WellFormedStmt, WellFormedStmts, WellFormedPart, WellFormedTops, WellFormed, is_main, ends_in_main}
+use Rattle.c_semantics.specs.Meaning.State.{State, nowhere}
 use Rattle.c_semantics.specs.Meaning.Expressions.{Define}
 use Rattle.c_semantics.specs.Meaning.FileVariables.{has_name, defines_with}
 use Rattle.c_semantics.specs.Loops.CanonicalForm.{Canonical, Init, Test, canonical, init, test, test_from, turned, is_read, increment, fits_test, is_step_for, with_step, with_test, with_init}
+use Rattle.c_semantics.specs.Loops.Directives.{plan_of}
+use Rattle.c_semantics.specs.Loops.Transformations.{reverse_, Plan, plan, Applied, none_applied, applied_at}
+use Rattle.c_semantics.specs.Structure.Skeleton.{scope_after}
+use Rattle.c_scopes.specs.Types.{with_params}
+use Rattle.c_scopes.specs.Laws.{scope_with}
 use Rattle.loop_normal.specs.Gens.{gen_loop, Seq, Looped, Plain, Parts, no_parts, more_parts, Gen, join, let_stmt, parts_stmts, emit}
-use Rattle.loop_normal.specs.Templates.{ll, only, SourceLoop, LoopNames, leaf, source_var, count_by, is_up, signed_literal, value_expr, begins_at_zero, on_first, rebased}
+use Rattle.loop_normal.specs.Templates.{ll, only, SourceLoop, LoopNames, leaf, source_var, count_by, is_up, signed_literal, value_expr, begins_at_zero, on_first}
 use Rattle.loop_normal.specs.DrawnNames.{FreshNames, next_digits, numbered, untaken, drawn_digits, drawn, after_draw, after_draws, loop_names}
 use Rattle.loop_normal.specs.FromZero.{from_zero, after_from_zero}
-use Rattle.apply_rewrite.specs.SourceNames.{beside_program}
+use Rattle.carried_out.specs.SourceNames.{beside_program}
 use Rattle.permute_reverse.specs.Reversed.{reversed, reversed_gen}
-use Rattle.apply_rewrite.specs.CarriedOut.{Made, made_leaf, with_type, where_declared, declared_loop, carried, carried_all, nest, nest_in, made_reverse, carried_top, carried_items, carried_out}
-use Rattle.apply_rewrite.specs.Reversible.{all_stay_in, is_reversible, are_reversible, is_nest, is_nest_in, are_reversible_items, is_reversible_program}
-use Rattle.apply_rewrite.proofs.CarriedOut.{left_true, right_true}
+use Rattle.carried_out.specs.CarriedOut.{Made, made_leaf, variable_type, with_type, where_typed, loop_at, scope_below, in_head, planned, items_applied, carried, carried_all, nest, nest_in, made_reverse, carried_top, carried_items, carried_out}
+use Rattle.carried_out.specs.Reversible.{all_stay_in, is_reversal, is_reversible, are_reversible, is_nest, is_nest_in, are_reversible_items, is_reversible_program}
+use Rattle.carried_out.proofs.FromZero.{stays_from_zero, draws_none}
 
 -- ---- drawn names
 
@@ -61,21 +66,18 @@ after_decimal (suc k) f h = after_decimal k (after_draw f) (next_decimal (drawn_
 abbrev in_word : ℕ → Bool
 in_word d = is_letter d || is_digit d
 
-both : (a b : Bool) → a ≡ true → b ≡ true → (a && b) ≡ true
-both a b x y = rw (x, y) refl
-
 or_true : (a : Bool) → (a || true) ≡ true
 or_true true = refl
 or_true false = refl
 
 digit_in_word : (d : ℕ) → 48 ≤ d → d ≤ 57 → in_word d ≡ true
-digit_in_word d h k = ap (λ b. is_letter d || b) (both _ _ (le-leb 48 d h) (le-leb d 57 k)) ∙ or_true (is_letter d)
+digit_in_word d h k = ap (λ b. is_letter d || b) (and_from _ _ (le-leb 48 d h) (le-leb d 57 k)) ∙ or_true (is_letter d)
 
 all_in_word : (ds : List ℕ) → AreDecimal ds → list_all in_word (reverse ds) ≡ true
 all_in_word [] h = refl
 all_in_word (d ∷ ds) h =
     ap (list_all in_word) (reverse-append (d ∷ []) ds) ∙ list_all-append in_word (reverse ds) (d ∷ [])
-    ∙ both _ _ (all_in_word ds h.2) (both _ _ (digit_in_word d h.0 h.1) refl)
+    ∙ and_from _ _ (all_in_word ds h.2) (and_from _ _ (digit_in_word d h.0 h.1) refl)
 
 numbered_name : (ds : List ℕ) → AreDecimal ds → IsName (numbered ds)
 numbered_name ds h = subst (λ b. IsTrue (b && not (is_among (numbered ds) keywords))) (sym (all_in_word ds h)) refl
@@ -156,7 +158,7 @@ step_well i t None h k = tt
 step_well i t (Some z) h k = by (is_step_for t.op z) refl
   where
     by : (b : Bool) → is_step_for t.op z ≡ b → WellIf (if b then Some (record { var = i.var; ty = i.ty; lb = i.lb; ub = t.ub; test = t.op; step = z }) else None)
-    by true e = record { var = h.0; lb = h.1; ub = k; step = ltb-true (nat_abs z) (2 ^ 63) (right_true (fits_test t.op z) _ e) }
+    by true e = record { var = h.0; lb = h.1; ub = k; step = ltb-true (nat_abs z) (2 ^ 63) (and_parts (fits_test t.op z) _ e).1 }
     by false e = tt
 
 tested_well : (ds : List Define) (m : MaybeStmt) (i : Init) (t : Option Test) → IsName i.var × WellFormedExpr i.lb → TestWell t → WellIf (with_test ds m i t)
@@ -174,18 +176,15 @@ abbrev WellSourceIf : Option SourceLoop → Type 0
 WellSourceIf None = Unit {0}
 WellSourceIf (Some l) = WellSource l
 
-declared_well : (o : Option Canonical) → WellIf o → WellSourceIf (where_declared o)
-declared_well None h = tt
-declared_well (Some c) h = by c.ty
+typed_well : (s : State) (o : Option Canonical) → WellIf o → WellSourceIf (where_typed s o)
+typed_well s None h = tt
+typed_well s (Some c) h = by (variable_type s c.ty c.var)
   where
     by : (t : Option Ty) → WellSourceIf (with_type c t)
     by None = tt
     by (Some T) = (h.var, h.lb, h.ub, h.step)
 
 -- ---- generated code
-
-small : (k : ℕ) → k < 2 ^ 63 → WellFormedExpr (ll k)
-small k h = h
 
 one_held : IsHeld Long 1
 one_held = lit< tt
@@ -250,13 +249,6 @@ reversed_well r g n w = record {
   front = w.front;
 }
 
--- code whose loop begins at 0 stays as it is
-pub stays_from_zero : (f : FreshNames) (g : Gen) → begins_at_zero g.parts ≡ true → from_zero f g ≡ g
-stays_from_zero f g e = ap (λ b. if b then g else (record { front = g.front; parts = on_first (rebased (drawn f) (drawn (after_draws 1 f)) (drawn (after_draws 2 f))) g.parts })) e
-
-draws_none : (f : FreshNames) (g : Gen) → begins_at_zero g.parts ≡ true → after_from_zero f g ≡ f
-draws_none f g e = ap (λ b. if b then f else after_draws 3 f) e
-
 emitted_well : (g : Gen) → WellGen g → WellFormedStmts (emit g)
 emitted_well g w = w.front (parts_stmts g.parts) (subst (λ z. WellFormedStmts (parts_stmts z)) (sym w.parts)
     (((tt, (w.counter_named, zero_held), (w.counter_named, w.end_well), tt, (w.counter_named, tt)), w.body), tt))
@@ -274,6 +266,15 @@ made_well m w =
       gen = reversed_well (drawn f) (from_zero m.left m.tree) (drawn_name f at) (subst WellGen (sym (stays_from_zero m.left m.tree zero)) w.gen);
       digits = next_decimal (drawn_digits f) (drawn_decimal f at);
     }
+
+mutual
+  planned_well : (p : Plan) (m : Made Gen) → WellNest m → WellNest (planned p m)
+  planned_well (plan reverse_ w) m k = applied_well w (made_reverse m) (made_well m k)
+  planned_well (plan t w) m k = applied_well w m k
+
+  applied_well : (w : Applied) (m : Made Gen) → WellNest m → WellNest (items_applied w m)
+  applied_well none_applied m k = k
+  applied_well (applied_at p d w) m k = applied_well w (planned d m) (planned_well d m k)
 
 -- ---- statements
 
@@ -297,83 +298,83 @@ module _ (ds : List Define) where
       }
 
   mutual
-    well_stmt : (a : Stmt) → is_reversible ds a ≡ true → WellFormedStmt a → (f : FreshNames) → AreDecimal f.digits → WellStmt (carried ds a f)
-    well_stmt (decl t x e) h w f d = record { tree = w; digits = d }
-    well_stmt (set t op e) h w f d = record { tree = w; digits = d }
-    well_stmt (step t up) h w f d = record { tree = w; digits = d }
-    well_stmt (print e) h w f d = record { tree = w; digits = d }
-    well_stmt (input t) h w f d = record { tree = w; digits = d }
-    well_stmt (call x es) h w f d = record { tree = w; digits = d }
-    well_stmt break_ h w f d = record { tree = w; digits = d }
-    well_stmt continue_ h w f d = record { tree = w; digits = d }
-    well_stmt empty h w f d = record { tree = w; digits = d }
-    well_stmt (if_ e a) h w f d = let k = well_stmts a h w.1 f d in record { tree = (w.0, k.tree); digits = k.digits }
-    well_stmt (if_else e a b) h w f d =
-        let k = well_stmts a (left_true _ _ h) w.1 f d in
-        let l = well_stmts b (right_true (are_reversible ds a) _ h) w.2 (carried_all ds a f).left k.digits in
+    well_stmt : (s : State) (a : Stmt) → is_reversible ds s a ≡ true → WellFormedStmt a → (f : FreshNames) → AreDecimal f.digits → WellStmt (carried ds s a f)
+    well_stmt s (decl t x e) h w f d = record { tree = w; digits = d }
+    well_stmt s (set t op e) h w f d = record { tree = w; digits = d }
+    well_stmt s (step t up) h w f d = record { tree = w; digits = d }
+    well_stmt s (print e) h w f d = record { tree = w; digits = d }
+    well_stmt s (input t) h w f d = record { tree = w; digits = d }
+    well_stmt s (call x es) h w f d = record { tree = w; digits = d }
+    well_stmt s break_ h w f d = record { tree = w; digits = d }
+    well_stmt s continue_ h w f d = record { tree = w; digits = d }
+    well_stmt s empty h w f d = record { tree = w; digits = d }
+    well_stmt s (if_ e a) h w f d = let k = well_stmts s a h w.1 f d in record { tree = (w.0, k.tree); digits = k.digits }
+    well_stmt s (if_else e a b) h w f d =
+        let k = well_stmts s a (and_parts _ _ h).0 w.1 f d in
+        let l = well_stmts s b (and_parts (are_reversible ds s a) _ h).1 w.2 (carried_all ds s a f).left k.digits in
         record { tree = (w.0, k.tree, l.tree); digits = l.digits }
-    well_stmt (while_ e a) h w f d = let k = well_stmts a h w.1 f d in record { tree = (w.0, k.tree); digits = k.digits }
-    well_stmt (do_ a e) h w f d = let k = well_stmts a h w.0 f d in record { tree = (k.tree, w.1); digits = k.digits }
-    well_stmt (for_ g a) h w f d = let k = well_stmts a h w.1 f d in record { tree = (w.0, k.tree); digits = k.digits }
-    well_stmt (block a) h w f d = let k = well_stmts a h w f d in record { tree = k.tree; digits = k.digits }
-    well_stmt (omp (directive Reverse no_clauses) a) h w f d =
-        let m = nest ds a f in
-        let k = made_well m (well_nest a h w.1 f d) in
-        record { tree = emitted_well (made_reverse m).tree k.gen; digits = k.digits }
-    well_stmt (omp (directive kind cs) a) h w f d = absurd (both_ways false refl h)
+    well_stmt s (while_ e a) h w f d = let k = well_stmts s a h w.1 f d in record { tree = (w.0, k.tree); digits = k.digits }
+    well_stmt s (do_ a e) h w f d = let k = well_stmts s a h w.0 f d in record { tree = (k.tree, w.1); digits = k.digits }
+    well_stmt s (for_ g a) h w f d = let k = well_stmts (in_head g s) a h w.1 f d in record { tree = (w.0, k.tree); digits = k.digits }
+    well_stmt s (block a) h w f d = let k = well_stmts s a h w f d in record { tree = k.tree; digits = k.digits }
+    well_stmt s (omp d a) h w f digits =
+        let m = nest ds s a f in
+        let k = planned_well (plan_of ds d) m (well_nest s a (and_parts (is_reversal (plan_of ds d)) _ h).1 w.1 f digits) in
+        record { tree = emitted_well (planned (plan_of ds d) m).tree k.gen; digits = k.digits }
 
-    well_stmts : (a : Stmts) → are_reversible ds a ≡ true → WellFormedStmts a → (f : FreshNames) → AreDecimal f.digits → WellStmts (carried_all ds a f)
-    well_stmts no_stmts h w f d = record { tree = tt; digits = d }
-    well_stmts (more_stmts a as') h w f d =
-        let k = well_stmt a (left_true _ _ h) w.0 f d in
-        let l = well_stmts as' (right_true (is_reversible ds a) _ h) w.1 (carried ds a f).left k.digits in
+    well_stmts : (s : State) (a : Stmts) → are_reversible ds s a ≡ true → WellFormedStmts a → (f : FreshNames) → AreDecimal f.digits → WellStmts (carried_all ds s a f)
+    well_stmts s no_stmts h w f d = record { tree = tt; digits = d }
+    well_stmts s (more_stmts a as') h w f d =
+        let k = well_stmt s a (and_parts _ _ h).0 w.0 f d in
+        let l = well_stmts (scope_after a s) as' (and_parts (is_reversible ds s a) _ h).1 w.1 (carried ds s a f).left k.digits in
         record { tree = (k.tree, l.tree); digits = l.digits }
 
-    well_nest : (a : Stmts) → is_nest ds a ≡ true → WellFormedStmts a → (f : FreshNames) → AreDecimal f.digits → WellNest (nest ds a f)
-    well_nest no_stmts h w f d = absurd (both_ways false refl h)
-    well_nest (more_stmts a no_stmts) h w f d = well_nest_in a h w.0 f d
-    well_nest (more_stmts a (more_stmts b as')) h w f d = absurd (both_ways false refl h)
+    well_nest : (s : State) (a : Stmts) → is_nest ds s a ≡ true → WellFormedStmts a → (f : FreshNames) → AreDecimal f.digits → WellNest (nest ds s a f)
+    well_nest s no_stmts h w f d = absurd (both_ways false refl h)
+    well_nest s (more_stmts a no_stmts) h w f d = well_nest_in s a h w.0 f d
+    well_nest s (more_stmts a (more_stmts b as')) h w f d = absurd (both_ways false refl h)
 
-    well_nest_in : (a : Stmt) → is_nest_in ds a ≡ true → WellFormedStmt a → (f : FreshNames) → AreDecimal f.digits → WellNest (nest_in ds a f)
-    well_nest_in (for_ (head i e next) a) h w f d =
-        let rest = right_true (is_some (declared_loop ds (head i e next))) _ h in
-        the_loop_well (declared_loop ds (head i e next)) (carried_all ds a f) (left_true _ _ h)
-        (declared_well (canonical ds (head i e next)) (begun_well ds e next (init i) w.0.2 (init_well i w.0.1)))
-        (well_stmts a (right_true (all_stay_in a) _ rest) w.1 f d)
-    well_nest_in (block a) h w f d = well_nest a h w f d
-    well_nest_in (omp (directive Reverse no_clauses) a) h w f d = made_well (nest ds a f) (well_nest a h w.1 f d)
-    well_nest_in a h w f d = absurd (both_ways false refl h)
+    well_nest_in : (s : State) (a : Stmt) → is_nest_in ds s a ≡ true → WellFormedStmt a → (f : FreshNames) → AreDecimal f.digits → WellNest (nest_in ds s a f)
+    well_nest_in s (for_ (head i e next) a) h w f d =
+        let l = loop_at ds s (head i e next) in
+        let rest = (and_parts (is_some l) _ h).1 in
+        the_loop_well l (carried_all ds (scope_below s l) a f) (and_parts _ _ h).0
+        (typed_well s (canonical ds (head i e next)) (begun_well ds e next (init i) w.0.2 (init_well i w.0.1)))
+        (well_stmts (scope_below s l) a (and_parts (all_stay_in a) _ rest).1 w.1 f d)
+    well_nest_in s (block a) h w f d = well_nest s a h w f d
+    well_nest_in s (omp d a) h w f digits = planned_well (plan_of ds d) (nest ds s a f) (well_nest s a (and_parts (is_reversal (plan_of ds d)) _ h).1 w.1 f digits)
+    well_nest_in s a h w f d = absurd (both_ways false refl h)
 
 -- ---- programs
 
-well_items : (ds : List Define) (p : Program) → are_reversible_items ds p ≡ true → WellFormedTops p → (f : FreshNames) → AreDecimal f.digits → WellFormedTops (carried_items ds p f).tree
-well_items ds [] h w f d = tt
-well_items ds (define x minus k t ∷ is) h w f d = (w.0, well_items (defines_with ds (define x minus k t)) is h w.1 f d)
-well_items ds (extern_ port ∷ is) h w f d = (w.0, well_items ds is h w.1 f d)
-well_items ds (global t x dims e ∷ is) h w f d = (w.0, well_items ds is h w.1 f d)
-well_items ds (function x ps a ∷ is) h w f d =
-    let k = well_stmts ds a (left_true _ _ h) w.0.2 f d in
-    ((w.0.0, w.0.1, k.tree), well_items ds is (right_true (are_reversible ds a) _ h) w.1 (carried_top ds (function x ps a) f).left k.digits)
-well_items ds (main a ∷ is) h w f d =
-    let k = well_stmts ds a (left_true _ _ h) w.0 f d in
-    (k.tree, well_items ds is (right_true (are_reversible ds a) _ h) w.1 (carried_top ds (main a) f).left k.digits)
+well_items : (ds : List Define) (s : State) (p : Program) → are_reversible_items ds s p ≡ true → WellFormedTops p → (f : FreshNames) → AreDecimal f.digits → WellFormedTops (carried_items ds s p f).tree
+well_items ds s [] h w f d = tt
+well_items ds s (define x minus k t ∷ is) h w f d = (w.0, well_items (defines_with ds (define x minus k t)) s is h w.1 f d)
+well_items ds s (extern_ port ∷ is) h w f d = (w.0, well_items ds s is h w.1 f d)
+well_items ds s (global t x dims e ∷ is) h w f d = (w.0, well_items ds (scope_with s (global t x dims e)) is h w.1 f d)
+well_items ds s (function x ps a ∷ is) h w f d =
+    let k = well_stmts ds (with_params ps s) a (and_parts _ _ h).0 w.0.2 f d in
+    ((w.0.0, w.0.1, k.tree), well_items ds s is (and_parts (are_reversible ds (with_params ps s) a) _ h).1 w.1 (carried_top ds s (function x ps a) f).left k.digits)
+well_items ds s (main a ∷ is) h w f d =
+    let k = well_stmts ds s a (and_parts _ _ h).0 w.0 f d in
+    (k.tree, well_items ds s is (and_parts (are_reversible ds s a) _ h).1 w.1 (carried_top ds s (main a) f).left k.digits)
 
-same_kind : (ds : List Define) (i : Top) (f : FreshNames) → is_main (carried_top ds i f).tree ≡ is_main i
-same_kind ds (define x minus k t) f = refl
-same_kind ds (extern_ port) f = refl
-same_kind ds (global t x dims e) f = refl
-same_kind ds (function x ps a) f = refl
-same_kind ds (main a) f = refl
+same_kind : (ds : List Define) (s : State) (i : Top) (f : FreshNames) → is_main (carried_top ds s i f).tree ≡ is_main i
+same_kind ds s (define x minus k t) f = refl
+same_kind ds s (extern_ port) f = refl
+same_kind ds s (global t x dims e) f = refl
+same_kind ds s (function x ps a) f = refl
+same_kind ds s (main a) f = refl
 
-same_end : (ds : List Define) (p : Program) (f : FreshNames) → ends_in_main (carried_items ds p f).tree ≡ ends_in_main p
-same_end ds [] f = refl
-same_end ds (i ∷ []) f = same_kind ds i f
-same_end ds (i ∷ j ∷ is) f =
-    ap (λ z. not z && ends_in_main (carried_items (defines_with ds i) (j ∷ is) (carried_top ds i f).left).tree) (same_kind ds i f)
-    ∙ ap (λ z. not (is_main i) && z) (same_end (defines_with ds i) (j ∷ is) (carried_top ds i f).left)
+same_end : (ds : List Define) (s : State) (p : Program) (f : FreshNames) → ends_in_main (carried_items ds s p f).tree ≡ ends_in_main p
+same_end ds s [] f = refl
+same_end ds s (i ∷ []) f = same_kind ds s i f
+same_end ds s (i ∷ j ∷ is) f =
+    ap (λ z. not z && ends_in_main (carried_items (defines_with ds i) (scope_with s i) (j ∷ is) (carried_top ds s i f).left).tree) (same_kind ds s i f)
+    ∙ ap (λ z. not (is_main i) && z) (same_end (defines_with ds i) (scope_with s i) (j ∷ is) (carried_top ds s i f).left)
 
 pub stays_well_formed : (p : Program) → is_reversible_program p ≡ true → WellFormed p → WellFormed (carried_out p)
 stays_well_formed p h w = (
-  well_items [] p h w.0 (beside_program p) (lit≤ tt, lit≤ tt, tt),
-  subst IsTrue (sym (same_end [] p (beside_program p))) w.1,
+  well_items [] nowhere p h w.0 (beside_program p) (lit≤ tt, lit≤ tt, tt),
+  subst IsTrue (sym (same_end [] nowhere p (beside_program p))) w.1,
 )

@@ -1,8 +1,6 @@
 pub mod NoBreaks
 pub mod NoDirectives
-pub mod SourceNames
+pub mod ScopeOf
 pub mod ReverseStacks
 pub mod Rewritten
-pub mod CarriedOut
-pub mod Reversible
 pub mod Laws

@@ -1,26 +1,27 @@
-//! Reverse constructs carried out, inner ones first: each becomes a block. Bodies are moved.
+//! Reverse constructs carried out, inner ones first: each becomes a block. Bodies are moved. Afterwards the same is visible
+//! as before.
 
 ghost use Rattle.std.specs.Prelude.{◌≡◌, ◌≢◌, ◌∷◌, [], IfOk, MatchOption, OnOk, length};
 ghost use Rattle.std.specs.Option.{option_map};
 ghost use Rattle.c_tree.specs.Bare as b;
-ghost use Rattle.c_tree.specs.BareOf.{bare_program, bare_stmt, bare_stmts};
+ghost use Rattle.c_tree.specs.BareOf.{bare_directive, bare_head, bare_program, bare_stmt, bare_stmts};
 ghost use Rattle.c_tree.specs.Constants.{DefinesAreHeld};
 ghost use Rattle.c_tree.specs.WellFormed.{WellFormedStmt, WellFormedStmts};
 ghost use Rattle.canonical_nests.specs.Canonical.{program_defines};
 ghost use Rattle.loop_normal.specs.Gens as g;
 ghost use Rattle.loop_normal.specs.GenOf.{bare_gen};
 ghost use Rattle.loop_normal.specs.SourceOf.{source_of};
-ghost use Rattle.apply_rewrite.specs.CarriedOut as c;
+ghost use Rattle.carried_out.specs.CarriedOut as c;
 
-use crate::heads::declared_head;
-use crate::reversible::is_bare_reverse;
-use c_tree::tree::{Program, Stmt, StmtList};
+use crate::heads::typed_head;
+use crate::plans::{plan, planned};
+use crate::scope::Scope;
+use c_tree::tree::{Directive, ForHead, Program, Stmt, StmtList};
 use loop_normal::fresh::Fresh;
 use loop_normal::generated::Gen;
 use loop_normal::normal::{OwnedLoop, normal_leaf};
 use loop_normal::pieces::{block, no_parts, no_stmts};
 use loop_normal::statements::statements;
-use permute_reverse::reversal::reverse;
 use std::alloc::{AllocError, Global};
 
 /// Code without a loop.
@@ -67,13 +68,15 @@ fn alone(stmts: StmtList) -> Option<Stmt>
 fn carried(
     alloc: Global,
     defines: &Program,
+    scope: &mut Scope,
     stmt: Stmt,
     fresh: &mut Fresh,
 ) -> Result<Stmt, AllocError>
     requires defines_held { DefinesAreHeld (bare_program defines.now) }
     requires well_formed { WellFormedStmt (bare_stmt stmt) }
-    ensures tree { IfOk result (λ answer. bare_stmt answer ≡ (c.carried (program_defines (bare_program defines.now)) (bare_stmt stmt) fresh.old).tree) }
-    ensures left { OnOk result (fresh.new ≡ (c.carried (program_defines (bare_program defines.now)) (bare_stmt stmt) fresh.old).left) }
+    ensures tree { IfOk result (λ answer. bare_stmt answer ≡ (c.carried (program_defines (bare_program defines.now)) scope.old (bare_stmt stmt) fresh.old).tree) }
+    ensures left { OnOk result (fresh.new ≡ (c.carried (program_defines (bare_program defines.now)) scope.old (bare_stmt stmt) fresh.old).left) }
+    ensures scope { OnOk result (scope.new ≡ scope.old) }
 {
     match stmt {
         Stmt::If {
@@ -81,58 +84,42 @@ fn carried(
             yes,
             no,
             span,
-        } => match no {
-            None => {
-                let yes = carried_all(alloc, defines, yes, fresh)?;
-                Ok(Stmt::If {
-                    test,
-                    yes,
-                    no: None,
-                    span,
-                })
-            }
-            Some(no) => {
-                let yes = carried_all(alloc, defines, yes, fresh)?;
-                let no = carried_all(alloc, defines, no, fresh)?;
-                Ok(Stmt::If {
-                    test,
-                    yes,
-                    no: Some(no),
-                    span,
-                })
-            }
-        },
+        } => {
+            let yes = carried_all(alloc, defines, scope, yes, fresh)?;
+            let no = match no {
+                None => None,
+                Some(no) => Some(carried_all(alloc, defines, scope, no, fresh)?),
+            };
+            Ok(Stmt::If {
+                test,
+                yes,
+                no,
+                span,
+            })
+        }
         Stmt::While { test, body, span } => {
-            let body = carried_all(alloc, defines, body, fresh)?;
+            let body = carried_all(alloc, defines, scope, body, fresh)?;
             Ok(Stmt::While { test, body, span })
         }
         Stmt::Do { body, test, span } => {
-            let body = carried_all(alloc, defines, body, fresh)?;
+            let body = carried_all(alloc, defines, scope, body, fresh)?;
             Ok(Stmt::Do { body, test, span })
         }
         Stmt::For { head, body, span } => {
-            let body = carried_all(alloc, defines, body, fresh)?;
+            let body = carried_in_head(alloc, defines, scope, body, &head, fresh)?;
             Ok(Stmt::For { head, body, span })
         }
         Stmt::Block { body, span } => {
-            let body = carried_all(alloc, defines, body, fresh)?;
+            let body = carried_all(alloc, defines, scope, body, fresh)?;
             Ok(Stmt::Block { body, span })
         }
         Stmt::Omp {
             directive,
             body,
-            span,
+            span: _span,
         } => {
-            if is_bare_reverse(&directive) {
-                let code = nest(alloc, defines, body, fresh)?;
-                let code = reverse(alloc, code, fresh)?;
-                return Ok(block(statements(alloc, code)?));
-            }
-            Ok(Stmt::Omp {
-                directive,
-                body,
-                span,
-            })
+            let code = construct(alloc, defines, scope, body, &directive, fresh)?;
+            Ok(block(statements(alloc, code)?))
         }
         other => Ok(other),
     }
@@ -143,38 +130,112 @@ fn carried(
 pub(crate) fn carried_all(
     alloc: Global,
     defines: &Program,
+    scope: &mut Scope,
     stmts: StmtList,
     fresh: &mut Fresh,
 ) -> Result<StmtList, AllocError>
     requires defines_held { DefinesAreHeld (bare_program defines.now) }
     requires well_formed { WellFormedStmts (bare_stmts stmts) }
-    ensures tree { IfOk result (λ answer. bare_stmts answer ≡ (c.carried_all (program_defines (bare_program defines.now)) (bare_stmts stmts) fresh.old).tree) }
-    ensures left { OnOk result (fresh.new ≡ (c.carried_all (program_defines (bare_program defines.now)) (bare_stmts stmts) fresh.old).left) }
+    ensures tree { IfOk result (λ answer. bare_stmts answer ≡ (c.carried_all (program_defines (bare_program defines.now)) scope.old (bare_stmts stmts) fresh.old).tree) }
+    ensures left { OnOk result (fresh.new ≡ (c.carried_all (program_defines (bare_program defines.now)) scope.old (bare_stmts stmts) fresh.old).left) }
+    ensures scope { OnOk result (scope.new ≡ scope.old) }
 {
+    let len = scope.len();
     let mut done = StmtList::new(alloc);
     'each: for stmt in stmts.into_items() {
-        done.push(carried(alloc, defines, stmt, fresh)?)?;
+        let stmt = carried(alloc, defines, scope, stmt, fresh)?;
+        scope.add_stmt(alloc, &stmt)?;
+        done.push(stmt)?;
     }
+    scope.keep(len);
     Ok(done)
 }
 
+/// The body of a loop with this head, carried out where what the head declares is visible.
+#[cycle(carrying)]
+fn carried_in_head(
+    alloc: Global,
+    defines: &Program,
+    scope: &mut Scope,
+    body: StmtList,
+    head: &ForHead,
+    fresh: &mut Fresh,
+) -> Result<StmtList, AllocError>
+    requires defines_held { DefinesAreHeld (bare_program defines.now) }
+    requires well_formed { WellFormedStmts (bare_stmts body) }
+    ensures tree { IfOk result (λ answer. bare_stmts answer ≡ (c.carried_all (program_defines (bare_program defines.now)) (c.in_head (bare_head head.now) scope.old) (bare_stmts body) fresh.old).tree) }
+    ensures left { OnOk result (fresh.new ≡ (c.carried_all (program_defines (bare_program defines.now)) (c.in_head (bare_head head.now) scope.old) (bare_stmts body) fresh.old).left) }
+    ensures scope { OnOk result (scope.new ≡ scope.old) }
+{
+    let len = scope.len();
+    scope.add_head(alloc, head)?;
+    let body = carried_all(alloc, defines, scope, body, fresh)?;
+    scope.keep(len);
+    Ok(body)
+}
+
+/// The body of a loop that a construct takes, carried out where the loop's variable is visible.
+#[cycle(carrying)]
+fn carried_in_loop(
+    alloc: Global,
+    defines: &Program,
+    scope: &mut Scope,
+    body: StmtList,
+    found: &Option<OwnedLoop>,
+    fresh: &mut Fresh,
+) -> Result<StmtList, AllocError>
+    requires defines_held { DefinesAreHeld (bare_program defines.now) }
+    requires well_formed { WellFormedStmts (bare_stmts body) }
+    ensures tree { IfOk result (λ answer. bare_stmts answer ≡ (c.carried_all (program_defines (bare_program defines.now)) (c.scope_below scope.old (option_map source_of found.now)) (bare_stmts body) fresh.old).tree) }
+    ensures left { OnOk result (fresh.new ≡ (c.carried_all (program_defines (bare_program defines.now)) (c.scope_below scope.old (option_map source_of found.now)) (bare_stmts body) fresh.old).left) }
+    ensures scope { OnOk result (scope.new ≡ scope.old) }
+{
+    let len = scope.len();
+    scope.add_loop(alloc, found)?;
+    let body = carried_all(alloc, defines, scope, body, fresh)?;
+    scope.keep(len);
+    Ok(body)
+}
+
+/// The code of a directive's loop under its plan.
+#[cycle(carrying)]
+fn construct(
+    alloc: Global,
+    defines: &Program,
+    scope: &mut Scope,
+    body: StmtList,
+    directive: &Directive,
+    fresh: &mut Fresh,
+) -> Result<Gen, AllocError>
+    requires defines_held { DefinesAreHeld (bare_program defines.now) }
+    requires well_formed { WellFormedStmt (b.omp (bare_directive directive.now) (bare_stmts body)) }
+    ensures tree { IfOk result (λ code. bare_gen code ≡ (c.nest_in (program_defines (bare_program defines.now)) scope.old (b.omp (bare_directive directive.now) (bare_stmts body)) fresh.old).tree) }
+    ensures left { OnOk result (fresh.new ≡ (c.nest_in (program_defines (bare_program defines.now)) scope.old (b.omp (bare_directive directive.now) (bare_stmts body)) fresh.old).left) }
+    ensures scope { OnOk result (scope.new ≡ scope.old) }
+{
+    let plan = plan(alloc, defines, directive)?;
+    let code = nest(alloc, defines, scope, body, fresh)?;
+    planned(alloc, &plan, code, fresh)
+}
+
 /// The code of the loop that a list leads to, through braces and further directives, and none where it leads to none.
-#[tactic(auto, using(crate::proofs::StatementMore::carrying))]
 #[cycle(carrying)]
 fn nest(
     alloc: Global,
     defines: &Program,
+    scope: &mut Scope,
     stmts: StmtList,
     fresh: &mut Fresh,
 ) -> Result<Gen, AllocError>
     requires defines_held { DefinesAreHeld (bare_program defines.now) }
     requires well_formed { WellFormedStmts (bare_stmts stmts) }
-    ensures tree { IfOk result (λ code. bare_gen code ≡ (c.nest (program_defines (bare_program defines.now)) (bare_stmts stmts) fresh.old).tree) }
-    ensures left { OnOk result (fresh.new ≡ (c.nest (program_defines (bare_program defines.now)) (bare_stmts stmts) fresh.old).left) }
+    ensures tree { IfOk result (λ code. bare_gen code ≡ (c.nest (program_defines (bare_program defines.now)) scope.old (bare_stmts stmts) fresh.old).tree) }
+    ensures left { OnOk result (fresh.new ≡ (c.nest (program_defines (bare_program defines.now)) scope.old (bare_stmts stmts) fresh.old).left) }
+    ensures scope { OnOk result (scope.new ≡ scope.old) }
 {
     match alone(stmts) {
         None => Ok(no_code(alloc)),
-        Some(stmt) => nest_in(alloc, defines, stmt, fresh),
+        Some(stmt) => nest_in(alloc, defines, scope, stmt, fresh),
     }
 }
 
@@ -182,13 +243,15 @@ fn nest(
 fn nest_in(
     alloc: Global,
     defines: &Program,
+    scope: &mut Scope,
     stmt: Stmt,
     fresh: &mut Fresh,
 ) -> Result<Gen, AllocError>
     requires defines_held { DefinesAreHeld (bare_program defines.now) }
     requires well_formed { WellFormedStmt (bare_stmt stmt) }
-    ensures tree { IfOk result (λ code. bare_gen code ≡ (c.nest_in (program_defines (bare_program defines.now)) (bare_stmt stmt) fresh.old).tree) }
-    ensures left { OnOk result (fresh.new ≡ (c.nest_in (program_defines (bare_program defines.now)) (bare_stmt stmt) fresh.old).left) }
+    ensures tree { IfOk result (λ code. bare_gen code ≡ (c.nest_in (program_defines (bare_program defines.now)) scope.old (bare_stmt stmt) fresh.old).tree) }
+    ensures left { OnOk result (fresh.new ≡ (c.nest_in (program_defines (bare_program defines.now)) scope.old (bare_stmt stmt) fresh.old).left) }
+    ensures scope { OnOk result (scope.new ≡ scope.old) }
 {
     match stmt {
         Stmt::For {
@@ -196,22 +259,16 @@ fn nest_in(
             body,
             span: _span,
         } => {
-            let found = declared_head(alloc, defines, head)?;
-            let body = carried_all(alloc, defines, body, fresh)?;
+            let found = typed_head(alloc, defines, scope, head)?;
+            let body = carried_in_loop(alloc, defines, scope, body, &found, fresh)?;
             leaf(alloc, found, body, fresh)
         }
-        Stmt::Block { body, span: _span } => nest(alloc, defines, body, fresh),
+        Stmt::Block { body, span: _span } => nest(alloc, defines, scope, body, fresh),
         Stmt::Omp {
             directive,
             body,
             span: _span,
-        } => {
-            if is_bare_reverse(&directive) {
-                let code = nest(alloc, defines, body, fresh)?;
-                return reverse(alloc, code, fresh);
-            }
-            Ok(no_code(alloc))
-        }
+        } => construct(alloc, defines, scope, body, &directive, fresh),
         other => {
             drop(other);
             Ok(no_code(alloc))

@@ -1,4 +1,4 @@
-//! Loops that declare their variable, taken out of their statements.
+//! Loops that constructs take, with the types of their variables, taken out of their statements.
 
 ghost use Rattle.std.specs.Prelude.{◌≡◌, IfOk};
 ghost use Rattle.std.specs.Option.{option_map};
@@ -8,8 +8,9 @@ ghost use Rattle.c_tree.specs.WellFormed.{WellFormedHead, WellFormedStmt};
 ghost use Rattle.canonical_nests.specs.Canonical.{canonical_stmt, program_defines, seen_loop, test_op};
 ghost use Rattle.loop_normal.specs.SourceOf.{source_of};
 ghost use Rattle.loop_normal.specs.Laws.{source_loop};
-ghost use Rattle.apply_rewrite.specs.CarriedOut as c;
+ghost use Rattle.carried_out.specs.CarriedOut as c;
 
+use crate::scope::Scope;
 use c_tree::copy::copy_expr;
 use c_tree::tree::{BinOp, ForHead, Program, Span, Stmt, Ty};
 use canonical_nests::canonical::{CanonLoop, Test, canonical};
@@ -48,42 +49,54 @@ fn copied(alloc: Global, found: CanonLoop, ty: Ty) -> Result<OwnedLoop, AllocErr
     })
 }
 
-/// The parts of a canonical loop that declares its variable, and `None` exactly for any other statement.
-#[tactic(auto, using(crate::proofs::Walks::held))]
-fn declared_loop(
+/// The type of a loop's variable: as its head declares it, else that of the variable which is visible there.
+fn variable_type(scope: &Scope, found: &CanonLoop) -> Option<Ty>
+    ensures { result ≡ c.variable_type scope.now (seen_loop found.now).ty (seen_loop found.now).var }
+{
+    match found.ty {
+        Some(ty) => Some(ty),
+        None => scope.variable_type(found.var),
+    }
+}
+
+/// The parts of a canonical loop whose variable has a type, and `None` exactly for any other statement.
+#[tactic(auto, using(crate::proofs::HeldHeads::held))]
+fn typed_loop(
     alloc: Global,
     defines: &Program,
+    scope: &Scope,
     stmt: &Stmt,
 ) -> Result<Option<OwnedLoop>, AllocError>
     requires defines_held { DefinesAreHeld (bare_program defines.now) }
     requires well_formed { WellFormedStmt (bare_stmt stmt.now) }
-    ensures { IfOk result (λ head. option_map source_of head ≡ c.where_declared (canonical_stmt (program_defines (bare_program defines.now)) (bare_stmt stmt.now))) }
+    ensures { IfOk result (λ head. option_map source_of head ≡ c.where_typed scope.now (canonical_stmt (program_defines (bare_program defines.now)) (bare_stmt stmt.now))) }
 {
     let found = match canonical(defines, stmt) {
         None => return Ok(None),
         Some(found) => found,
     };
-    match found.ty {
+    match variable_type(scope, &found) {
         None => Ok(None),
         Some(ty) => Ok(Some(copied(alloc, found, ty)?)),
     }
 }
 
-/// The parts of a loop with this head, where the head is canonical and declares its variable: a loop with an empty body
+/// The parts of a loop with this head, where the head is canonical and its variable has a type: a loop with an empty body
 /// stands for it.
-pub(crate) fn declared_head(
+pub(crate) fn typed_head(
     alloc: Global,
     defines: &Program,
+    scope: &Scope,
     head: ForHead,
 ) -> Result<Option<OwnedLoop>, AllocError>
     requires defines_held { DefinesAreHeld (bare_program defines.now) }
     requires well_formed { WellFormedHead (bare_head head) }
-    ensures { IfOk result (λ found. option_map source_of found ≡ c.declared_loop (program_defines (bare_program defines.now)) (bare_head head)) }
+    ensures { IfOk result (λ found. option_map source_of found ≡ c.loop_at (program_defines (bare_program defines.now)) scope.now (bare_head head)) }
 {
     let empty = Stmt::For {
         head,
         body: no_stmts(alloc),
         span: NOWHERE,
     };
-    declared_loop(alloc, defines, &empty)
+    typed_loop(alloc, defines, scope, &empty)
 }

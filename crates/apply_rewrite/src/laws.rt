@@ -3,7 +3,7 @@
 ghost use Rattle.apply_rewrite.specs.Laws.{CarriedOutKeepsItsForm, CarriedOutRunsAlike, OutcomesAgree, StatementsRunAlike};
 
 /// A statement does the same when stacks of reverse directives in it are replaced by the blocks that stand for them: in
-/// every state and at every bound on the turns.
+/// every state that has the variables of its scope, with their types, and at every bound on the turns.
 pub fn statements_run_alike()
     ensures { StatementsRunAlike }
 {}
@@ -14,8 +14,8 @@ pub fn outcomes_agree()
     ensures { OutcomesAgree }
 {}
 
-/// A well-formed program all of whose directives are `reverse` without clauses, over canonical loops that declare their
-/// variable and that no `break` leaves, has the same outcome and the same turns when its constructs are carried out; no
+/// A well-formed program all of whose directives are `reverse`, those of `apply` too, over canonical loops that no `break`
+/// leaves and whose variables have types, has the same outcome and the same turns when its constructs are carried out; no
 /// directive is left then.
 pub fn carried_out_runs_alike()
     ensures { CarriedOutRunsAlike }

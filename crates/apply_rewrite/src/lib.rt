@@ -5,6 +5,7 @@ mod carrying;
 mod defines;
 mod heads;
 pub mod laws;
-pub mod reversible;
+mod plans;
 pub mod rewrite;
+mod scope;
 mod source_names;

@@ -1,34 +1,64 @@
 //! Programs with their reverse constructs carried out.
 
 ghost use Rattle.std.specs.Prelude.{◌≡◌, IfOk, OnOk, [], IsTrue, map, ℕ, List, ℤ};
-ghost use Rattle.c_tree.specs.BareOf.{bare_program, bare_top};
+ghost use Rattle.c_tree.specs.BareOf.{bare_param, bare_program, bare_stmts, bare_top};
 ghost use Rattle.c_tree.specs.Constants.{DefinesAreHeld};
-ghost use Rattle.c_tree.specs.WellFormed.{WellFormedTop, WellFormedTops};
+ghost use Rattle.c_tree.specs.WellFormed.{WellFormedStmts, WellFormedTop, WellFormedTops};
+ghost use Rattle.c_semantics.specs.Meaning.State.{nowhere};
+ghost use Rattle.c_scopes.specs.Types.{with_params};
 ghost use Rattle.c_semantics.specs.Meaning.Programs.{outcome, turns_of};
+ghost use Rattle.c_semantics.specs.Structure.Skeleton.{skeleton};
 ghost use Rattle.canonical_nests.specs.Canonical.{program_defines};
-ghost use Rattle.apply_rewrite.specs.CarriedOut as c;
+ghost use Rattle.carried_out.specs.CarriedOut as c;
 ghost use Rattle.apply_rewrite.specs.NoDirectives.{HoldsNoDirective};
-ghost use Rattle.apply_rewrite.specs.Reversible.{is_reversible_program};
+ghost use Rattle.carried_out.specs.AllReverse.{all_reverse};
 ghost use Rattle.apply_rewrite.specs.Rewritten.{ProgramRewritten};
 
 use crate::carrying::carried_all;
 use crate::defines::with_define;
+use crate::scope::Scope;
 use crate::source_names::fresh_beside;
 use c_tree::checked::Checked;
-use c_tree::tree::{Item, ItemList, Program};
+use c_tree::tree::{Item, ItemList, Param, Program, StmtList};
+use canonical_nests::admitted::Admitted;
 use loop_normal::fresh::Fresh;
 use std::alloc::{AllocError, Global};
+
+/// The body of a function with these parameters, its constructs carried out.
+#[tactic(auto, using(crate::proofs::Scopes::leaving))]
+fn carried_body(
+    alloc: Global,
+    defines: &Program,
+    scope: &mut Scope,
+    params: &[Param],
+    body: StmtList,
+    fresh: &mut Fresh,
+) -> Result<StmtList, AllocError>
+    requires defines_held { DefinesAreHeld (bare_program defines.now) }
+    requires well_formed { WellFormedStmts (bare_stmts body) }
+    ensures tree { IfOk result (λ answer. bare_stmts answer ≡ (c.carried_all (program_defines (bare_program defines.now)) (with_params (map bare_param params.now) scope.old) (bare_stmts body) fresh.old).tree) }
+    ensures left { OnOk result (fresh.new ≡ (c.carried_all (program_defines (bare_program defines.now)) (with_params (map bare_param params.now) scope.old) (bare_stmts body) fresh.old).left) }
+    ensures scope { OnOk result (scope.new ≡ scope.old) }
+{
+    let len = scope.len();
+    scope.add_params(alloc, params)?;
+    let body = carried_all(alloc, defines, scope, body, fresh)?;
+    scope.keep(len);
+    Ok(body)
+}
 
 fn carried_item(
     alloc: Global,
     defines: &Program,
+    scope: &mut Scope,
     item: Item,
     fresh: &mut Fresh,
 ) -> Result<Item, AllocError>
     requires defines_held { DefinesAreHeld (bare_program defines.now) }
     requires well_formed { WellFormedTop (bare_top item) }
-    ensures tree { IfOk result (λ answer. bare_top answer ≡ (c.carried_top (program_defines (bare_program defines.now)) (bare_top item) fresh.old).tree) }
-    ensures left { OnOk result (fresh.new ≡ (c.carried_top (program_defines (bare_program defines.now)) (bare_top item) fresh.old).left) }
+    ensures tree { IfOk result (λ answer. bare_top answer ≡ (c.carried_top (program_defines (bare_program defines.now)) scope.old (bare_top item) fresh.old).tree) }
+    ensures left { OnOk result (fresh.new ≡ (c.carried_top (program_defines (bare_program defines.now)) scope.old (bare_top item) fresh.old).left) }
+    ensures scope { OnOk result (scope.new ≡ scope.old) }
 {
     match item {
         Item::Function {
@@ -38,7 +68,7 @@ fn carried_item(
             body,
             span,
         } => {
-            let body = carried_all(alloc, defines, body, fresh)?;
+            let body = carried_body(alloc, defines, scope, params.as_slice(), body, fresh)?;
             Ok(Item::Function {
                 name,
                 name_span,
@@ -48,7 +78,7 @@ fn carried_item(
             })
         }
         Item::Main { body, span } => {
-            let body = carried_all(alloc, defines, body, fresh)?;
+            let body = carried_all(alloc, defines, scope, body, fresh)?;
             Ok(Item::Main { body, span })
         }
         other => Ok(other),
@@ -58,35 +88,44 @@ fn carried_item(
 #[tactic(auto, using(crate::proofs::ItemMore::carrying_items))]
 fn carried_items(alloc: Global, items: ItemList, fresh: &mut Fresh) -> Result<ItemList, AllocError>
     requires { WellFormedTops (map bare_top items) }
-    ensures { IfOk result (λ done. map bare_top done ≡ (c.carried_items [] (map bare_top items) fresh.old).tree) }
+    ensures { IfOk result (λ done. map bare_top done ≡ (c.carried_items [] nowhere (map bare_top items) fresh.old).tree) }
 {
     let mut defines = Program {
         items: ItemList::new(alloc),
     };
+    let mut scope = Scope::new(alloc);
     let mut done = ItemList::new(alloc);
     'each: for item in items.into_items() {
         defines = with_define(alloc, defines, &item)?;
-        done.push(carried_item(alloc, &defines, item, fresh)?)?;
+        scope.add_item(alloc, &item)?;
+        done.push(carried_item(alloc, &defines, &mut scope, item, fresh)?)?;
     }
     Ok(done)
 }
 
-/// The program with its constructs carried out, inner ones first: each becomes a block. Bodies are moved.
+/// The program with its constructs carried out, inner ones first: each becomes a block (OpenMP 6.0, 11.1 and 11.5). Bodies
+/// are moved.
 ///
-/// Every directive is a `reverse` without clauses, over further such directives, braces and one canonical loop that declares
-/// its variable and that no `break` leaves (`is_reversible_program`). On every input and at every bound on the turns the
-/// answer has the outcome and the turns of the source.
-pub fn rewrite(alloc: Global, source: Checked) -> Result<Program, AllocError>
-    requires { IsTrue (is_reversible_program (bare_program source)) }
+/// Every directive is a `reverse`, and so is every item of `apply` but `nothing`. The answer has no directive. On every input
+/// and at every bound on the turns it has the outcome and the turns of the source, and it has the loops and the body copies
+/// that the source asks for. As a checked program it breaks no name rule and has height at most 256.
+///
+/// # Errors
+///
+/// `AllocError` where there is no memory for the answer.
+pub fn rewrite(alloc: Global, source: Admitted) -> Result<Checked, AllocError>
+    requires { IsTrue (all_reverse (bare_program source)) }
     ensures text { IfOk result (λ answer. bare_program answer ≡ c.carried_out (bare_program source)) }
-    ensures rewritten { IfOk result (λ answer. ProgramRewritten [] (bare_program source) (bare_program answer)) }
+    ensures rewritten { IfOk result (λ answer. ProgramRewritten [] nowhere (bare_program source) (bare_program answer)) }
     ensures plain { IfOk result (λ answer. HoldsNoDirective (bare_program answer)) }
     ensures outcome { IfOk result (λ answer. (n : ℕ) (input : List ℤ) → outcome n (bare_program answer) input ≡ outcome n (bare_program source) input) }
     ensures turns { IfOk result (λ answer. (n : ℕ) (input : List ℤ) → turns_of n (bare_program answer) input ≡ turns_of n (bare_program source) input) }
+    ensures structure { IfOk result (λ answer. skeleton (bare_program answer) ≡ skeleton (bare_program source)) }
 {
-    let program = source.into_program();
+    let checked = source.into_checked();
+    let program = checked.into_program();
     let mut fresh = fresh_beside(alloc, &program)?;
     let Program { items } = program;
     let items = carried_items(alloc, items, &mut fresh)?;
-    Ok(Program { items })
+    Ok(Checked::new(Program { items }))
 }

@@ -3,7 +3,7 @@
 ghost use Rattle.std.specs.Prelude.{◌≡◌, ◌++◌, IfOk, OnOk, map};
 ghost use Rattle.std.specs.Option.{option_map};
 ghost use Rattle.c_tree.specs.BareOf.{bare_expr, bare_exprs, bare_head, bare_param, bare_program, bare_stmt, bare_stmts, bare_target, bare_top, maybe_stmt};
-ghost use Rattle.apply_rewrite.specs.SourceNames as n;
+ghost use Rattle.carried_out.specs.SourceNames as n;
 
 use c_tree::boxed::Boxed;
 use c_tree::name::Name;

@@ -1,68 +1,14 @@
--- The places of file-scope variables: what is found there, and what stays the same as variables change and are added.
-use Rattle.std.proofs.Common.{◌≡◌, ◌∙◌, sym, ap, refl, subst, ℕ, zero, suc, ◌<◌, Bool, true, false, List, [], ◌∷◌, ◌++◌, length, set, nat_eq, arith}
-use Rattle.std.specs.Prelude.{bytes_eq, if◌then◌else◌, slice_index_or, Option, Some, None, ℤ}
+-- The places of file-scope variables: what stays the same as variables change and are added.
+use Rattle.std.proofs.Common.{◌≡◌, ◌∙◌, sym, ap, refl, ℕ, zero, suc, Bool, true, false, List, [], ◌∷◌, ◌++◌, length, set, nat_eq, arith}
+use Rattle.std.specs.Prelude.{bytes_eq, if◌then◌else◌, slice_index_or, Option, Some, None}
 use Rattle.std.specs.Option.{option_map}
 use Rattle.c_tree.specs.Bare.{Name}
 use Rattle.resolved_names.specs.Numbered.{number_name}
-use Rattle.c_semantics.specs.Meaning.State.{Cell, Var, find, write}
-use Rattle.c_semantics.specs.Meaning.SimpleStatements.{changed}
+use Rattle.c_semantics.specs.Meaning.State.{Var}
 use Rattle.c_meaning.specs.declared.place_table.PlaceTable.{PlaceTable}
 use Rattle.c_meaning.specs.PlaceTables.{place_at}
 use Rattle.c_meaning.specs.FileVariables.{first_of, TellsFirst}
-use Rattle.c_meaning.specs.Variables.{first_at}
 use Rattle.c_meaning.proofs.Numbers.{number_eq}
-use Rattle.c_meaning.proofs.Variables.{found, written, missing, unwritten}
-
--- ---- the first of a name
-
-first_here : (x : Name) (vs : List Var) (i : ℕ) (b : Bool) (o : Option ℕ) → ((j : ℕ) → o ≡ Some j → (j ≡ first_at x vs) × (j < length vs)) → (if b then Some 0 else option_map suc o) ≡ Some i → (i ≡ (if b then 0 else suc (first_at x vs))) × (i < suc (length vs))
-first_here x vs i true o rest is = let zeroth : 0 ≡ i = cc in (sym zeroth, omega arith)
-first_here x vs i false None rest is = absurd (cc)
-first_here x vs i false (Some j) rest is =
-    let after : suc j ≡ i = cc in
-    let here = rest j refl in
-    (sym after ∙ ap suc here.0, omega (arith, here.1))
-
-first_is : (x : Name) (vs : List Var) (i : ℕ) → first_of x vs ≡ Some i → (i ≡ first_at x vs) × (i < length vs)
-first_is x [] i is = absurd (cc)
-first_is x (v ∷ vs) i is = first_here x vs i (bytes_eq x v.name) (first_of x vs) (first_is x vs) is
-
-no_first_here : (x : Name) (vs : List Var) (b : Bool) (o : Option ℕ) → (o ≡ None → first_at x vs ≡ length vs) → (if b then Some 0 else option_map suc o) ≡ None → (if b then 0 else suc (first_at x vs)) ≡ suc (length vs)
-no_first_here x vs true o rest is = absurd (cc)
-no_first_here x vs false None rest is = ap suc (rest refl)
-no_first_here x vs false (Some j) rest is = absurd (cc)
-
-no_first : (x : Name) (vs : List Var) → first_of x vs ≡ None → first_at x vs ≡ length vs
-no_first x [] is = refl
-no_first x (v ∷ vs) is = no_first_here x vs (bytes_eq x v.name) (first_of x vs) (no_first x vs) is
-
-module _ (x : Name) (vs : List Var) (i : ℕ) (is : first_of x vs ≡ Some i) where
-  pub first_within : i < length vs
-  first_within = (first_is x vs i is).1
-
-  below : first_at x vs < length vs
-  below = subst (λ k. k < length vs) (first_is x vs i is).0 (first_is x vs i is).1
-
-  module _ (v : Var) (at : v ≡ slice_index_or vs i v) where
-    at_first : v ≡ slice_index_or vs (first_at x vs) v
-    at_first = at ∙ ap (λ k. slice_index_or vs k v) (first_is x vs i is).0
-
-    pub first_found : find x vs ≡ Some v.cell
-    first_found = found x vs v below at_first
-
-    pub first_written : (k : ℕ) (z : ℤ) → set vs i (record { name = v.name; cell = changed (Some v.cell) k z }) ≡ write x (changed (find x vs) k z) vs
-    first_written k z =
-        let c : Cell = changed (Some v.cell) k z in
-        ap (λ j. set vs j (record { name = v.name; cell = c })) (first_is x vs i is).0
-        ∙ (sym (written x c vs v below at_first)
-        ∙ ap (λ o. write x (changed o k z) vs) (sym first_found))
-
-module _ (x : Name) (vs : List Var) (is : first_of x vs ≡ None) where
-  pub none_found : find x vs ≡ None
-  none_found = missing x vs (no_first x vs is)
-
-  pub none_written : (k : ℕ) (z : ℤ) → vs ≡ write x (changed (find x vs) k z) vs
-  none_written k z = sym (unwritten x (changed (find x vs) k z) vs (no_first x vs is))
 
 -- ---- where a variable changes
 

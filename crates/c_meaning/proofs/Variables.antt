@@ -2,51 +2,88 @@
 use Rattle.std.proofs.Common.{◌≡◌, ◌∙◌, sym, ap, refl, ℕ, zero, suc, ◌+◌, ◌-◌, ◌<◌, ◌≤◌, Bool, true, false, List, [], ◌∷◌, ◌++◌, length, reverse, set, arith}
 use Rattle.std.proofs.lemmas.List.{reverse-append, length-reverse, get_or-reverse, set-append_left, set-append_right}
 use Rattle.std.specs.Prelude.{bytes_eq, if◌then◌else◌, slice_index_or, is_some, Option, Some, None, ℤ}
+use Rattle.std.specs.Option.{option_map}
 use Rattle.c_tree.specs.Bare.{Name}
 use Rattle.c_semantics.specs.Meaning.State.{Cell, Var, State, find, write, write_at, look, store, or_else, with_frame, with_globals}
 use Rattle.c_semantics.specs.Meaning.SimpleStatements.{changed}
-use Rattle.c_meaning.specs.Variables.{first_at}
+use Rattle.c_meaning.specs.FileVariables.{first_of}
 
 -- a variable after a number was stored in it
 abbrev pub with_number : Var → ℕ → ℤ → Var
 with_number v k z = record { name = v.name; cell = changed (Some v.cell) k z }
 
--- ---- what was found
+-- ---- the first of a name, by where it stands
 
-found_here : (x : Name) (w v : Var) (vs : List Var) (b : Bool) → (first_at x vs < length vs → v ≡ slice_index_or vs (first_at x vs) v → find x vs ≡ Some v.cell) → (if b then 0 else suc (first_at x vs)) < suc (length vs) → v ≡ slice_index_or (w ∷ vs) (if b then 0 else suc (first_at x vs)) v → (if b then Some w.cell else find x vs) ≡ Some v.cell
-found_here x w v vs true rest h at = ap (λ u. Some u.cell) (sym at)
-found_here x w v vs false rest h at = rest (omega arith) at
+zero_here : (b : Bool) (o : Option ℕ) → (if b then Some 0 else option_map suc o) ≡ Some 0 → b ≡ true
+zero_here true o is = refl
+zero_here false None is = absurd (cc)
+zero_here false (Some j) is = absurd (let after : suc j ≡ 0 = cc in omega arith)
 
-pub found : (x : Name) (vs : List Var) (v : Var) → first_at x vs < length vs → v ≡ slice_index_or vs (first_at x vs) v → find x vs ≡ Some v.cell
-found x [] v h at = absurd (omega arith)
-found x (w ∷ vs) v h at = found_here x w v vs (bytes_eq x w.name) (found x vs v) h at
+suc_here : (b : Bool) (o : Option ℕ) (i : ℕ) → (if b then Some 0 else option_map suc o) ≡ Some (suc i) → (b ≡ false) × (o ≡ Some i)
+suc_here true o i is = absurd (let after : 0 ≡ suc i = cc in omega arith)
+suc_here false None i is = absurd (cc)
+suc_here false (Some j) i is = (refl, ap Some (let after : suc j ≡ suc i = cc in omega arith))
 
-abbrev changed_at : List Var → ℕ → Var → Cell → List Var
-changed_at vs i v c = set vs i (record { name = v.name; cell = c })
+none_here : (b : Bool) (o : Option ℕ) → (if b then Some 0 else option_map suc o) ≡ None → (b ≡ false) × (o ≡ None)
+none_here true o is = absurd (cc)
+none_here false None is = (refl, refl)
+none_here false (Some j) is = absurd (cc)
 
-written_here : (x : Name) (c : Cell) (w v : Var) (vs : List Var) (b : Bool) → (first_at x vs < length vs → v ≡ slice_index_or vs (first_at x vs) v → write x c vs ≡ changed_at vs (first_at x vs) v c) → (if b then 0 else suc (first_at x vs)) < suc (length vs) → v ≡ slice_index_or (w ∷ vs) (if b then 0 else suc (first_at x vs)) v → (if b then record { name = w.name; cell = c } ∷ vs else w ∷ write x c vs) ≡ changed_at (w ∷ vs) (if b then 0 else suc (first_at x vs)) v c
-written_here x c w v vs true rest h at = ap {B = List Var} (λ u. record { name = u.name; cell = c } ∷ vs) (sym at)
-written_here x c w v vs false rest h at = ap (λ us. w ∷ us) (rest (omega arith) at)
+module _ (x : Name) (w : Var) (vs : List Var) where
+  first_zero : first_of x (w ∷ vs) ≡ Some 0 → bytes_eq x w.name ≡ true
+  first_zero is = zero_here (bytes_eq x w.name) (first_of x vs) is
 
-pub written : (x : Name) (c : Cell) (vs : List Var) (v : Var) → first_at x vs < length vs → v ≡ slice_index_or vs (first_at x vs) v → write x c vs ≡ changed_at vs (first_at x vs) v c
-written x c [] v h at = absurd (omega arith)
-written x c (w ∷ vs) v h at = written_here x c w v vs (bytes_eq x w.name) (written x c vs v) h at
+  first_suc : (i : ℕ) → first_of x (w ∷ vs) ≡ Some (suc i) → (bytes_eq x w.name ≡ false) × (first_of x vs ≡ Some i)
+  first_suc i is = suc_here (bytes_eq x w.name) (first_of x vs) i is
 
-missing_here : (x : Name) (w : Var) (vs : List Var) (b : Bool) → (first_at x vs ≡ length vs → find x vs ≡ None) → (if b then 0 else suc (first_at x vs)) ≡ suc (length vs) → (if b then Some w.cell else find x vs) ≡ None
-missing_here x w vs true rest h = absurd (omega arith)
-missing_here x w vs false rest h = rest (omega arith)
+  first_none : first_of x (w ∷ vs) ≡ None → (bytes_eq x w.name ≡ false) × (first_of x vs ≡ None)
+  first_none is = none_here (bytes_eq x w.name) (first_of x vs) is
 
-pub missing : (x : Name) (vs : List Var) → first_at x vs ≡ length vs → find x vs ≡ None
-missing x [] h = refl
-missing x (w ∷ vs) h = missing_here x w vs (bytes_eq x w.name) (missing x vs) h
+pub first_within : (x : Name) (vs : List Var) (i : ℕ) → first_of x vs ≡ Some i → i < length vs
+first_within x [] i is = absurd (cc)
+first_within x (w ∷ vs) zero is = omega arith
+first_within x (w ∷ vs) (suc i) is = omega (arith, first_within x vs i (first_suc x w vs i is).1)
 
-unwritten_here : (x : Name) (c : Cell) (w : Var) (vs : List Var) (b : Bool) → (first_at x vs ≡ length vs → write x c vs ≡ vs) → (if b then 0 else suc (first_at x vs)) ≡ suc (length vs) → (if b then record { name = w.name; cell = c } ∷ vs else w ∷ write x c vs) ≡ w ∷ vs
-unwritten_here x c w vs true rest h = absurd (omega arith)
-unwritten_here x c w vs false rest h = ap (λ us. w ∷ us) (rest (omega arith))
+-- ---- what is found there, and what a write of it changes
 
-pub unwritten : (x : Name) (c : Cell) (vs : List Var) → first_at x vs ≡ length vs → write x c vs ≡ vs
-unwritten x c [] h = refl
-unwritten x c (w ∷ vs) h = unwritten_here x c w vs (bytes_eq x w.name) (unwritten x c vs) h
+pub found : (x : Name) (vs : List Var) (i : ℕ) → first_of x vs ≡ Some i → (v : Var) → v ≡ slice_index_or vs i v → find x vs ≡ Some v.cell
+found x [] i is v at = absurd (cc)
+found x (w ∷ vs) zero is v at = ap (λ b. if b then Some w.cell else find x vs) (first_zero x w vs is) ∙ ap (λ u. Some u.cell) (sym at)
+found x (w ∷ vs) (suc i) is v at =
+    let more = first_suc x w vs i is in
+    ap (λ b. if b then Some w.cell else find x vs) more.0 ∙ found x vs i more.1 v at
+
+pub written : (x : Name) (c : Cell) (vs : List Var) (i : ℕ) → first_of x vs ≡ Some i → (v : Var) → v ≡ slice_index_or vs i v → write x c vs ≡ set vs i (record { name = v.name; cell = c })
+written x c [] i is v at = absurd (cc)
+written x c (w ∷ vs) zero is v at =
+    ap (λ b. if b then record { name = w.name; cell = c } ∷ vs else w ∷ write x c vs) (first_zero x w vs is)
+    ∙ ap {B = List Var} (λ u. record { name = u.name; cell = c } ∷ vs) (sym at)
+written x c (w ∷ vs) (suc i) is v at =
+    let more = first_suc x w vs i is in
+    ap (λ b. if b then record { name = w.name; cell = c } ∷ vs else w ∷ write x c vs) more.0
+    ∙ ap (λ us. w ∷ us) (written x c vs i more.1 v at)
+
+pub missing : (x : Name) (vs : List Var) → first_of x vs ≡ None → find x vs ≡ None
+missing x [] is = refl
+missing x (w ∷ vs) is =
+    let more = first_none x w vs is in
+    ap (λ b. if b then Some w.cell else find x vs) more.0 ∙ missing x vs more.1
+
+unwritten_here : (x : Name) (c : Cell) (w : Var) (vs : List Var) (b : Bool) → (is_some (find x vs) ≡ false → write x c vs ≡ vs) → is_some (if b then Some w.cell else find x vs) ≡ false → (if b then record { name = w.name; cell = c } ∷ vs else w ∷ write x c vs) ≡ w ∷ vs
+unwritten_here x c w vs true rest nowhere = absurd (cc)
+unwritten_here x c w vs false rest nowhere = ap (λ us. w ∷ us) (rest nowhere)
+
+pub unwritten : (x : Name) (c : Cell) (vs : List Var) → is_some (find x vs) ≡ false → write x c vs ≡ vs
+unwritten x c [] nowhere = refl
+unwritten x c (w ∷ vs) nowhere = unwritten_here x c w vs (bytes_eq x w.name) (unwritten x c vs) nowhere
+
+-- a number stored in the variable, where there is one
+module _ (x : Name) (vs : List Var) (k : ℕ) (z : ℤ) where
+  pub number_written : (i : ℕ) → first_of x vs ≡ Some i → (v : Var) → v ≡ slice_index_or vs i v → set vs i (record { name = v.name; cell = changed (Some v.cell) k z }) ≡ write x (changed (find x vs) k z) vs
+  number_written i is v at = sym (written x (changed (Some v.cell) k z) vs i is v at) ∙ ap (λ o. write x (changed o k z) vs) (sym (found x vs i is v at))
+
+  pub no_number_written : first_of x vs ≡ None → vs ≡ write x (changed (find x vs) k z) vs
+  no_number_written is = sym (unwritten x (changed (find x vs) k z) vs (ap is_some (missing x vs is)))
 
 -- ---- a list whose innermost variable stands last
 
@@ -98,14 +135,5 @@ module _ (s : State) (x : Name) where
       by : (o : Option Cell) → is_some o ≡ false → write_at o x (changed (or_else o (find x s.globals)) k z) s ≡ with_globals (write x (changed (find x s.globals) k z) s.globals) s
       by None nowhere = refl
       by (Some c) nowhere = absurd (cc)
-
--- no variable of the name is there to be written
-same_here : (x : Name) (c : Cell) (v : Var) (vs : List Var) (b : Bool) → (is_some (find x vs) ≡ false → write x c vs ≡ vs) → is_some (if b then Some v.cell else find x vs) ≡ false → (if b then record { name = v.name; cell = c } ∷ vs else v ∷ write x c vs) ≡ v ∷ vs
-same_here x c v vs true rest nowhere = absurd (cc)
-same_here x c v vs false rest nowhere = ap (λ us. v ∷ us) (rest nowhere)
-
-pub not_written : (x : Name) (c : Cell) (vs : List Var) → is_some (find x vs) ≡ false → write x c vs ≡ vs
-not_written x c [] nowhere = refl
-not_written x c (v ∷ vs) nowhere = same_here x c v vs (bytes_eq x v.name) (not_written x c vs) nowhere
 
 pub ruleset places = (look_frame, look_globals)

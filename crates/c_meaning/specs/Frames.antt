@@ -1,10 +1,18 @@
 -- What a frame keeps of its variables besides them: where the innermost of each name stands, counted from the outermost on.
-use Rattle.std.specs.Prelude.{◌≡◌, ℕ, List, [], ◌∷◌, length, Option, Some, None, bytes_eq, if◌then◌else◌}
+use Rattle.std.specs.Prelude.{◌≡◌, ℕ, List, [], ◌∷◌, length, map, Option, Some, None, bytes_eq, if◌then◌else◌}
 use Rattle.c_tree.specs.Bare.{Name}
 use Rattle.resolved_names.specs.Numbered.{number_name}
 use Rattle.c_semantics.specs.Meaning.State.{Var}
 use Rattle.c_meaning.specs.PlaceTables.{place_at}
+use Rattle.c_meaning.specs.declared.frame.Binding.{Binding}
 use Rattle.c_meaning.specs.declared.place_table.PlaceTable.{PlaceTable}
+
+abbrev pub variables : List Binding → List Var
+variables bs = map (λ (b : Binding). b.variable) bs
+
+-- the places that they hide
+abbrev pub places : List Binding → List (Option ℕ)
+places bs = map (λ (b : Binding). b.hidden) bs
 
 -- the place of the innermost variable of a name, of variables whose innermost is the first
 abbrev pub place_of : Name → List Var → Option ℕ

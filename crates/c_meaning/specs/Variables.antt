@@ -1,6 +1,5 @@
 -- What the variables of a run stand for.
-use Rattle.std.specs.Prelude.{ℕ, suc, ◌*◌, ◌^◌, ◌<◌, List, [], ◌∷◌, Option, Some, None, ℤ, bytes_eq, if◌then◌else◌}
-use Rattle.c_tree.specs.Bare.{Name}
+use Rattle.std.specs.Prelude.{ℕ, ◌*◌, ◌^◌, ◌<◌, List, [], ◌∷◌, Option, Some, None, ℤ}
 use Rattle.c_semantics.specs.Meaning.State as state
 use Rattle.c_semantics.specs.Meaning.State.{scalar, array}
 use Rattle.c_meaning.specs.declared.variable.Cell.{Cell}
@@ -28,8 +27,3 @@ number_of (array t dims es) = None
 abbrev pub cell_in : Option state.Var → Option state.Cell
 cell_in None = None
 cell_in (Some v) = Some v.cell
-
--- ---- the place of a name in a list of variables: that of the first with this name, else the list's length
-abbrev pub first_at : Name → List state.Var → ℕ
-first_at x [] = 0
-first_at x (v ∷ vs) = if bytes_eq x v.name then 0 else suc (first_at x vs)

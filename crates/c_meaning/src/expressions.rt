@@ -147,11 +147,10 @@ pub fn eval(scope: &Scope, m: &Machine, e: &Expr) -> Result<TypedValue, Trap>
         }
         Expr::Cond { test, yes, no, .. } => {
             let test = eval(scope, m, test.get())?;
-            let ty = common(type_of(scope, m, yes.get()), type_of(scope, m, no.get()));
             if test.value == 0 {
-                chosen(scope, m, no.get(), ty)
+                chosen(scope, m, no.get(), yes.get())
             } else {
-                chosen(scope, m, yes.get(), ty)
+                chosen(scope, m, yes.get(), no.get())
             }
         }
         Expr::Cast { ty, of, .. } => Ok(TypedValue {
@@ -161,18 +160,19 @@ pub fn eval(scope: &Scope, m: &Machine, e: &Expr) -> Result<TypedValue, Trap>
     }
 }
 
-/// The value of one side of a conditional, with the type of the whole.
+/// The value of one side of a conditional, with the common type of both (C11 6.5.15). Only the other side's type is sought.
 #[tactic(auto, using(crate::proofs::Values::values))]
 #[cycle(eval)]
-fn chosen(scope: &Scope, m: &Machine, e: &Expr, ty: Ty) -> Result<TypedValue, Trap>
+fn chosen(scope: &Scope, m: &Machine, e: &Expr, other: &Expr) -> Result<TypedValue, Trap>
     requires known { RunnableTops (map numbered_top scope.now.items.now) }
     requires well_formed { HeldExpr (numbered_expr e.now) }
     ensures value { value_in result ≡ meaning.eval (env_of scope.now).defines m.now (numbered_expr e.now) }
-    ensures ty { IfOk result (λ v. v.ty ≡ ty) }
+    ensures ty { IfOk result (λ v. v.ty ≡ numbers.common (meaning.type_of (env_of scope.now).defines m.now (numbered_expr e.now)) (meaning.type_of (env_of scope.now).defines m.now (numbered_expr other.now))) }
 {
+    let chosen = eval(scope, m, e)?;
     Ok(TypedValue {
-        ty,
-        value: eval(scope, m, e)?.value,
+        ty: common(chosen.ty, type_of(scope, m, other)),
+        value: chosen.value,
     })
 }
 

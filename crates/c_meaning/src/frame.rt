@@ -12,13 +12,18 @@ use crate::variable::{Cell, Variable};
 use std::alloc::{AllocError, Global};
 use std::marker::Model;
 
+/// A variable with the place of the one that it hides.
+#[derive(Debug, Drop)]
+struct Binding {
+    variable: Variable,
+    hidden: Option<usize>,
+}
+
 /// The variables of a function, each of which is found by its number in one step. Contracts see them, the innermost first.
 #[derive(Debug, Drop)]
 pub struct Frame {
     /// The innermost stands last.
-    variables: Vec<Variable>,
-    /// For each variable, the place of the one that it hides.
-    hidden: Vec<Option<usize>>,
+    bindings: Vec<Binding>,
     /// The place of the innermost variable of each number.
     innermost: PlaceTable,
 }
@@ -26,13 +31,13 @@ pub struct Frame {
 impl Model for Frame {
     ghost use Rattle.std.specs.Prelude.{List, reverse};
     ghost use Rattle.c_semantics.specs.Meaning.State.{Var};
-    ghost use Rattle.c_meaning.specs.Frames.{IsFrame};
+    ghost use Rattle.c_meaning.specs.Frames.{variables, places, IsFrame};
 
     ghost Value = { List Var };
 
-    ghost view = { λ f. reverse f.variables.items };
+    ghost view = { λ f. reverse (variables f.bindings.items) };
 
-    ghost invariant = { λ f. IsFrame (reverse f.variables.items) (reverse f.hidden.items) f.innermost };
+    ghost invariant = { λ f. IsFrame (reverse (variables f.bindings.items)) (reverse (places f.bindings.items)) f.innermost };
 }
 
 impl Frame {
@@ -41,8 +46,7 @@ impl Frame {
         ensures { result ≡ [] }
     {
         Frame {
-            variables: Vec::new(alloc),
-            hidden: Vec::new(alloc),
+            bindings: Vec::new(alloc),
             innermost: PlaceTable::new(alloc),
         }
     }
@@ -51,7 +55,7 @@ impl Frame {
     pub fn len(&self) -> usize
         ensures { result ≡ length self.now }
     {
-        self.variables.len()
+        self.bindings.len()
     }
 
     /// The innermost variable of a name.
@@ -59,7 +63,7 @@ impl Frame {
         ensures { cell_in (option_copied result) ≡ find (number_name name) self.now }
     {
         match self.innermost.get(name) {
-            Some(place) => Some(&self.variables[place]),
+            Some(place) => Some(&self.bindings[place].variable),
             None => None,
         }
     }
@@ -71,7 +75,7 @@ impl Frame {
     {
         match self.innermost.get(name) {
             Some(place) => {
-                self.variables[place].set(at, number);
+                self.bindings[place].variable.set(at, number);
                 true
             }
             None => false,
@@ -84,12 +88,12 @@ impl Frame {
         ensures { OnOk result (self.new ≡ record { name = number_name name; cell = cell_of cell } ∷ self.old) }
     {
         self.innermost.make_room(name)?;
-        let place = self.variables.len();
-        self.variables.push(Variable::new(name, cell))?;
-        if self.hidden.push(self.innermost.get(name)).is_err() {
-            self.variables.pop();
-            return Err(AllocError);
-        }
+        let place = self.bindings.len();
+        let hidden = self.innermost.get(name);
+        self.bindings.push(Binding {
+            variable: Variable::new(name, cell),
+            hidden,
+        })?;
         self.innermost.put(name, Some(place));
         Ok(())
     }
@@ -98,10 +102,8 @@ impl Frame {
     fn drop_innermost(&mut self)
         ensures { self.new ≡ drop 1 self.old }
     {
-        if let Some(variable) = self.variables.pop() {
-            if let Some(place) = self.hidden.pop() {
-                self.innermost.put(variable.name(), place);
-            }
+        if let Some(binding) = self.bindings.pop() {
+            self.innermost.put(binding.variable.name(), binding.hidden);
         }
     }
 

@@ -29,11 +29,11 @@ abbrev take_one : State → State
 take_one s = record s { input = rest_of s.input }
 
 module _ (v : Var) (k : ℕ) where
-  find_beside : (x : Name) → Differ x v.name → (l m : List Var) → Beside v k l m → find x m ≡ find x l
+  pub find_beside : (x : Name) → Differ x v.name → (l m : List Var) → Beside v k l m → find x m ≡ find x l
   find_beside x h l m (here b e) = ap (λ t. if t then Some v.cell else find x b) h
   find_beside x h l m (there w {l = l'} {m = m'} p) = ap (λ o. if bytes_eq x w.name then Some w.cell else o) (find_beside x h l' m' p)
 
-  write_beside : (x : Name) (c : Cell) → Differ x v.name → (l m : List Var) → Beside v k l m → Beside v k (write x c l) (write x c m)
+  pub write_beside : (x : Name) (c : Cell) → Differ x v.name → (l m : List Var) → Beside v k l m → Beside v k (write x c l) (write x c m)
   write_beside x c h l m (here b e) =
       subst (λ t. Beside v k (write x c b) (if t then record { name = v.name; cell = c } ∷ b else v ∷ write x c b)) (sym h) (here (write x c b) (length_write x c b ∙ e))
   write_beside x c h l m (there w {l = l'} {m = m'} p) = by (write_beside x c h l' m' p) (bytes_eq x w.name)
@@ -42,7 +42,7 @@ module _ (v : Var) (k : ℕ) where
       by q true = there _ p
       by q false = there w q
 
-  one_longer : (l m : List Var) → Beside v k l m → length m ≡ suc (length l)
+  pub one_longer : (l m : List Var) → Beside v k l m → length m ≡ suc (length l)
   one_longer l m (here b e) = refl
   one_longer l m (there w {l = l'} {m = m'} p) = ap suc (one_longer l' m' p)
 

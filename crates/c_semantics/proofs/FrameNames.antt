@@ -22,7 +22,7 @@ names-write x c (w ∷ l) = by (names-write x c l) (bytes_eq x w.name)
     by h true = refl
     by h false = ap (λ ns. w.name ∷ ns) h
 
-length-names : (l : List Var) → length (names l) ≡ length l
+pub length-names : (l : List Var) → length (names l) ≡ length l
 length-names [] = refl
 length-names (v ∷ l) = ap suc (length-names l)
 

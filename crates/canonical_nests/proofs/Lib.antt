@@ -1,5 +1,6 @@
 pub mod Applied
 pub mod BodyDepths
+pub mod BreachSets
 pub mod ClauseLists
 pub mod ClauseFields
 pub mod Constants

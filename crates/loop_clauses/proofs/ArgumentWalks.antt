@@ -1,8 +1,8 @@
 -- What a loop over the arguments of a clause has left.
-use Rattle.std.proofs.Common.{◌≡◌, ◌∙◌, sym, ap, refl, ◌<◌, ◌≤◌, ◌+◌, ℕ, suc, List, [], ◌∷◌, map, length, drop, slice_index_or, Bool, true, false, ◌&&◌, Option, None, nat_le}
+use Rattle.std.proofs.Common.{◌≡◌, ◌∙◌, sym, ap, refl, ◌<◌, ◌≤◌, ◌+◌, ℕ, suc, List, [], ◌∷◌, map, length, drop, slice_index_or, true, ◌&&◌, None, nat_le}
 use Rattle.std.specs.Prelude.{not, if◌then◌else◌}
 use Rattle.c_tree.specs.Bare as b
-use Rattle.c_tree.specs.BareOf.{bare_expr, bare_exprs}
+use Rattle.c_tree.specs.BareOf.{bare_exprs}
 use Rattle.c_tree.specs.Placed as p
 use Rattle.c_tree.specs.Placed.{expr_list, expr_span}
 use Rattle.c_tree.specs.PlacedOf.{placed_expr, placed_exprs, placed_count}

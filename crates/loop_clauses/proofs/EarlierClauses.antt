@@ -1,5 +1,5 @@
 -- Which of the clauses before exclude a clause, told by what is known of those before.
-use Rattle.std.proofs.Common.{◌≡◌, ◌∙◌, ap, refl, List, [], ◌∷◌, Bool, true, ◌||◌}
+use Rattle.std.proofs.Common.{◌≡◌, ◌∙◌, ap, refl, List, [], ◌∷◌, ◌||◌}
 use Rattle.std.specs.List.{list_any}
 use Rattle.c_tree.specs.Placed.{ClauseKind, sizes, permutation, counts, looprange, full, partial, apply}
 use Rattle.canonical_nests.specs.LoopRules.Clauses.{exclude}

@@ -1,5 +1,5 @@
 -- The indices of an `apply` clause, where there are any and where there are none.
-use Rattle.std.proofs.Common.{◌≡◌, ◌∙◌, ap, refl, ℕ, List, [], ◌∷◌, length, Bool, true, ◌&&◌}
+use Rattle.std.proofs.Common.{◌≡◌, ◌∙◌, ap, refl, ℕ, List, [], ◌∷◌, length, true, ◌&&◌}
 use Rattle.std.specs.Prelude.{◌==◌}
 use Rattle.c_tree.specs.Placed as p
 use Rattle.c_tree.specs.PlacedOf.{placed_exprs, placed_items}

@@ -1,5 +1,5 @@
 -- What a loop over numbers has left.
-use Rattle.std.proofs.Common.{◌≡◌, ◌∙◌, sym, ap, ◌<◌, ◌≤◌, ◌+◌, ℕ, suc, List, [], ◌∷◌, ◌++◌, length, drop, slice_index_or, Bool, true, false, ◌&&◌, ◌||◌, arith}
+use Rattle.std.proofs.Common.{◌≡◌, ◌∙◌, sym, ap, ◌<◌, ◌≤◌, ◌+◌, ℕ, suc, List, [], ◌∷◌, ◌++◌, length, drop, slice_index_or, true, false, ◌&&◌, ◌||◌, arith}
 use Rattle.std.specs.Prelude.{◌==◌, not}
 use Rattle.c_tree.proofs.Walks.{rest_more, rest_none}
 use Rattle.canonical_nests.specs.LoopRules.Clauses.{is_in, all_different, shares, one_to}

@@ -1,6 +1,6 @@
 -- The clauses of what stands in a directive's body and is taken by it, where some loops are wanted; and one clause after
 -- others.
-use Rattle.std.specs.Prelude.{ℕ, suc, ◌-◌, List, not}
+use Rattle.std.specs.Prelude.{ℕ, ◌-◌, List, not}
 use Rattle.c_tree.specs.Placed.{Clause, clause, Stmt, for_, block, omp}
 use Rattle.c_tree.specs.Forget.{forget_directive}
 use Rattle.c_tree.specs.declared.tree.Kind.{Kind}

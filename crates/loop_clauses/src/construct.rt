@@ -3,10 +3,7 @@
 ghost use Rattle.std.specs.Prelude.{◌≡◌, ◌<◌, IfOk};
 ghost use Rattle.c_tree.specs.BareOf.{bare_directive, bare_stmt, bare_stmts};
 ghost use Rattle.c_tree.specs.PlacedOf.{placed_directive, placed_stmt, placed_stmts};
-ghost use Rattle.c_tree.specs.Forget.{forget_directive};
 ghost use Rattle.c_tree.specs.WellFormed.{WellFormedDirective, WellFormedStmt, WellFormedStmts};
-ghost use Rattle.c_semantics.specs.Loops.Directives as directives;
-ghost use Rattle.c_semantics.specs.Loops.Need as need;
 ghost use Rattle.canonical_nests.specs.LoopRules.BreachSets.{least};
 ghost use Rattle.canonical_nests.specs.LoopRules.Clauses as rules;
 ghost use Rattle.canonical_nests.specs.LoopRules.Programs as programs;

@@ -1,6 +1,6 @@
 //! The clauses of a directive and of all its items.
 
-ghost use Rattle.std.specs.Prelude.{◌≡◌, [], map, IfOk, OnOk};
+ghost use Rattle.std.specs.Prelude.{◌≡◌, [], IfOk, OnOk};
 ghost use Rattle.c_tree.specs.BareOf.{bare_kind, bare_clause, bare_clauses, bare_directive, bare_item, bare_items};
 ghost use Rattle.c_tree.specs.PlacedOf.{placed_kind, placed_clause, placed_clauses, placed_directive, placed_item, placed_items};
 ghost use Rattle.canonical_nests.specs.Held.{ClauseIsHeld, ClausesAreHeld, DirectiveIsHeld, ItemIsHeld, ItemsAreHeld};

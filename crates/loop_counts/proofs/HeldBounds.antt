@@ -12,7 +12,7 @@ use Rattle.c_semantics.specs.Meaning.Expressions.{Define}
 use Rattle.c_semantics.specs.Loops.CanonicalForm.{Canonical, Init, init, Test, test, test_from, is_read, turned, is_step_for, increment, with_step, with_test, with_init, canonical}
 use Rattle.canonical_nests.specs.Canonical.{PartIsHeld, HeadIsHeld, seen_loop}
 use Rattle.canonical_nests.specs.declared.canonical.CanonLoop.{CanonLoop}
-use Rattle.loop_counts.proofs.HeldParts.{expr_held}
+use Rattle.canonical_nests.proofs.HeldTrees.{expr_held}
 
 abbrev BoundsAreHeld : Option Canonical → Type 0
 BoundsAreHeld o = IfSome o (λ c. LiteralsAreHeld c.lb × LiteralsAreHeld c.ub)

@@ -1,15 +1,16 @@
 pub mod Applied
+pub mod BackwardWalks
 pub mod ConstructBreaches
 pub mod DefineValues
 pub mod Dependences
 pub mod HeadParts
 pub mod HeldBounds
-pub mod HeldParts
 pub mod Interchanges
 pub mod ItemBreaches
 pub mod KnownCounts
 pub mod Lookups
 pub mod MovedKinds
+pub mod Parameters
 pub mod Parts
 pub mod PlannedDirectives
 pub mod PositionLists
@@ -20,3 +21,4 @@ pub mod Tiles
 pub mod Transforms
 pub mod TripCounts
 pub mod WantedKinds
+pub mod WellFormedItems

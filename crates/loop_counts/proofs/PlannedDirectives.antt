@@ -8,7 +8,7 @@ use Rattle.c_semantics.specs.Meaning.Expressions.{Define}
 use Rattle.c_semantics.specs.Loops.Directives.{plan_of}
 use Rattle.canonical_nests.specs.LoopRules.PlacedPlans.{PlacedPlan, placed_plan, forget_plan}
 use Rattle.canonical_nests.proofs.ForgottenPlans.{plan_is}
-use Rattle.loop_counts.proofs.HeldParts.{directive_held}
+use Rattle.canonical_nests.proofs.HeldTrees.{directive_held}
 
 pub planned_is : (ds : List Define) (d : Directive) (p : PlacedPlan) → p ≡ placed_plan ds (placed_directive d) → forget_plan p ≡ plan_of ds (bare_directive d)
 planned_is ds d p e = ap forget_plan e ∙ (plan_is ds (placed_directive d) ∙ ap (plan_of ds) (sym (bare_directive_is d)))

@@ -1,7 +1,6 @@
 //! The kinds of the loops that `fuse` gives (OpenMP 6.0, 11.3).
 
 ghost use Rattle.std.specs.Prelude.{◌≡◌, IfOk};
-ghost use Rattle.c_semantics.specs.Structure.Parts as parts;
 ghost use Rattle.canonical_nests.specs.Kinds as kinds;
 
 use crate::known::{all_known, first_counts, greatest};

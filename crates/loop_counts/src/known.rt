@@ -1,6 +1,6 @@
 //! Known counts.
 
-ghost use Rattle.std.specs.Prelude.{◌≡◌, ◌++◌, map, IfOk};
+ghost use Rattle.std.specs.Prelude.{◌≡◌, map, IfOk};
 ghost use Rattle.std.specs.Option.{option_map};
 ghost use Rattle.c_semantics.specs.Loops.Transformations.{any_zero};
 ghost use Rattle.c_semantics.specs.Structure.Parts as parts;

@@ -1,6 +1,6 @@
 //! Where the loops of a part go, and the kinds that depend on them.
 
-ghost use Rattle.std.specs.Prelude.{◌≡◌, ◌+◌, [], ◌∷◌, ◌++◌, map, flat_map, IfOk, nat_le, if◌then◌else◌};
+ghost use Rattle.std.specs.Prelude.{◌≡◌, ◌+◌, [], ◌∷◌, map, flat_map, IfOk, nat_le, if◌then◌else◌};
 ghost use Rattle.canonical_nests.specs.Kinds as kinds;
 ghost use Rattle.canonical_nests.specs.Plans.{seen_transformation};
 ghost use Rattle.loop_counts.specs.Moves.{move_of};

@@ -1,6 +1,6 @@
 //! The parts that a directive gives with the items of its `apply` clauses, and the kind of each count.
 
-ghost use Rattle.std.specs.Prelude.{◌≡◌, ◌+◌, ◌++◌, map, take, drop, IfOk};
+ghost use Rattle.std.specs.Prelude.{◌≡◌, ◌+◌, map, IfOk};
 ghost use Rattle.canonical_nests.specs.Kinds as kinds;
 ghost use Rattle.canonical_nests.specs.LoopRules.PlacedPlans.{forget_plan, forget_items};
 ghost use Rattle.canonical_nests.specs.Plans.{seen_transformation, seen_plan, seen_item, gather, part_of, loops_above};

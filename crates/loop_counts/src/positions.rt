@@ -1,6 +1,6 @@
 //! Positions of loops in a nest, and the kinds that depend on them.
 
-ghost use Rattle.std.specs.Prelude.{◌≡◌, ◌∷◌, ◌++◌, IfOk};
+ghost use Rattle.std.specs.Prelude.{◌≡◌, IfOk};
 ghost use Rattle.c_semantics.specs.Loops.Transformations.{place_of};
 ghost use Rattle.canonical_nests.specs.Kinds as kinds;
 

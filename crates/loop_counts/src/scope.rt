@@ -1,18 +1,18 @@
 //! The variables and the defines that are visible at a place of a program, without values.
 
-ghost use Rattle.std.specs.Prelude.{◌≡◌, OnOk, Some, None, map, reverse, length, ◌≤◌};
+ghost use Rattle.std.specs.Prelude.{◌≡◌, ◌++◌, OnOk, Some, None, map, reverse, length};
 ghost use Rattle.std.specs.Option.{option_map};
-ghost use Rattle.c_tree.specs.BareOf.{bare_top};
+ghost use Rattle.c_tree.specs.BareOf.{bare_param, bare_top};
 ghost use Rattle.c_tree.specs.WellFormed.{WellFormedTop};
 ghost use Rattle.c_semantics.specs.Meaning.State.{scalar, look, find, push, keep, with_frame};
-ghost use Rattle.c_semantics.specs.Meaning.Expressions as meaning;
 ghost use Rattle.c_semantics.specs.Meaning.FileVariables as file;
+ghost use Rattle.c_semantics.specs.Structure.Skeleton.{params_frame};
 ghost use Rattle.canonical_nests.specs.Weight as weight;
 ghost use Rattle.loop_counts.specs.Visible.{nothing_visible, define_of, variable_of, constant_named};
 
 use c_tree::constant::{TypedValue, defined_as};
 use c_tree::name::Name;
-use c_tree::tree::{Item, Ty};
+use c_tree::tree::{Item, Param, Ty};
 use std::alloc::{AllocError, Global};
 use std::marker::Model;
 
@@ -130,6 +130,20 @@ impl<'p> Scope<'p> {
         ensures { OnOk result (self.new ≡ record self.old { state = push name.now (scalar ty None) self.old.state }) }
     {
         self.frame.push(Variable { name, ty })?;
+        Ok(())
+    }
+
+    /// Makes the parameters of a function visible, the first one innermost.
+    #[tactic(auto, using(crate::proofs::Parameters::params))]
+    pub fn declare_params(&mut self, params: &'p [Param]) -> Result<(), AllocError>
+        ensures { OnOk result (self.new ≡ record self.old { state = with_frame (params_frame (map bare_param params.now) ++ self.old.state.frame) self.old.state }) }
+    {
+        let mut left = params.len();
+        'each: while left > 0 {
+            left -= 1;
+            let param = &params[left];
+            self.declare(&param.name, param.ty)?;
+        }
         Ok(())
     }
 

@@ -16,7 +16,7 @@ use crate::scope::Scope;
 use crate::trip::source_count;
 use c_tree::boxed::Boxed;
 use c_tree::items::Items;
-use c_tree::tree::{Directive, ForHead, Kind, Stmt};
+use c_tree::tree::{ForHead, Kind, Stmt};
 use canonical_nests::need::loops_asked;
 use canonical_nests::nest::CountKind;
 use std::alloc::{AllocError, Global};

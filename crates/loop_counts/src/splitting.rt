@@ -1,6 +1,6 @@
 //! The kinds of the loops that `split` gives (OpenMP 6.0, 11.6).
 
-ghost use Rattle.std.specs.Prelude.{◌≡◌, ◌-◌, ◌∷◌, ◌++◌, map, Some, IfOk};
+ghost use Rattle.std.specs.Prelude.{◌≡◌, ◌-◌, ◌∷◌, map, Some, IfOk};
 ghost use Rattle.c_semantics.specs.Loops.Transformations as transformations;
 ghost use Rattle.c_semantics.specs.Structure.Parts as parts;
 ghost use Rattle.canonical_nests.specs.Kinds as kinds;

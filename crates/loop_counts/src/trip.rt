@@ -1,6 +1,6 @@
 //! How often a loop turns whose bounds are constants (OpenMP 6.0, 6.4.1, logical iterations).
 
-ghost use Rattle.std.specs.Prelude.{◌≡◌, ◌<◌, ◌^◌, Some, Ok, pos, ◌-ℤ◌, ◌≤ℤ◌, nat_abs};
+ghost use Rattle.std.specs.Prelude.{◌≡◌, ◌<◌, ◌^◌, Some, Ok, pos, ◌-ℤ◌, ◌≤ℤ◌};
 ghost use Rattle.c_tree.specs.Arithmetic as numbers;
 ghost use Rattle.c_tree.specs.BareOf.{bare_expr};
 ghost use Rattle.c_tree.specs.Constants.{LiteralsAreHeld};

@@ -11,7 +11,7 @@ use Rattle.c_semantics.specs.Loops.CanonicalForm.{canonical}
 use Rattle.loop_heads.specs.Affected.{for_access, wanted_access}
 use Rattle.loop_heads.specs.Touching.{Gains, GainsOn}
 use Rattle.loop_heads.proofs.Touches.{gains_none, gains_on_init, gains_on_more, gains_on_end}
-use Rattle.loop_heads.proofs.Scopes.{extends_self, extends_after}
+use Rattle.loop_heads.proofs.Scopes.{extends_self}
 
 module _ (ds : List Define) (fs : List FunctionAccess) where
   pub stmts_more : (h : List Name) (xs : List Stmt) (i : ℕ) (a all p q : Access) (x : Stmt) → i < length xs → x ≡ slice_index_or xs i x

@@ -3,7 +3,7 @@ use Rattle.std.proofs.Common.{◌≡◌, ◌∙◌, refl, sym, ap, ◌<◌, ◌�
 use Rattle.std.specs.Option.{option_map}
 use Rattle.c_tree.specs.Bare as b
 use Rattle.c_tree.specs.BareOf as bare
-use Rattle.c_tree.specs.BareOf.{bare_stmt, bare_stmts, bare_head}
+use Rattle.c_tree.specs.BareOf.{bare_stmt, bare_head}
 use Rattle.c_tree.specs.Placed as p
 use Rattle.c_tree.specs.PlacedOf.{placed_stmt, placed_stmts, placed_head}
 use Rattle.c_tree.specs.Forget.{forget_head}

@@ -1,6 +1,6 @@
 //! The file-scope variables that expressions, targets and heads read and assign.
 
-ghost use Rattle.std.specs.Prelude.{◌≡◌, OnOk, Some};
+ghost use Rattle.std.specs.Prelude.{OnOk, Some};
 ghost use Rattle.std.specs.Option.{option_map};
 ghost use Rattle.c_tree.specs.BareOf.{bare_expr, bare_exprs, bare_target};
 ghost use Rattle.c_semantics.specs.Meaning.FileVariables as files;

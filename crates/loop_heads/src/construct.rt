@@ -1,14 +1,11 @@
 //! The heads of the loops that a construct's directives ask for, and what stands in their bodies.
 
-ghost use Rattle.std.specs.Prelude.{◌≡◌, ◌<◌, [], IfOk, OnOk, Some, None};
+ghost use Rattle.std.specs.Prelude.{◌≡◌, ◌<◌, IfOk, OnOk, Some, None};
 ghost use Rattle.std.specs.Option.{option_map};
 ghost use Rattle.c_tree.specs.BareOf.{bare_directive, bare_stmt, bare_stmts, bare_head, maybe_stmt};
 ghost use Rattle.c_tree.specs.PlacedOf.{placed_directive, placed_stmt, placed_stmts, placed_head};
-ghost use Rattle.c_tree.specs.Forget.{forget_directive};
 ghost use Rattle.c_tree.specs.WellFormed.{WellFormedDirective, WellFormedHead, WellFormedStmt, WellFormedStmts};
 ghost use Rattle.c_semantics.specs.Loops.CanonicalForm as form;
-ghost use Rattle.c_semantics.specs.Loops.Directives as directives;
-ghost use Rattle.c_semantics.specs.Loops.Need as need;
 ghost use Rattle.c_semantics.specs.Structure.Skeleton as skeleton;
 ghost use Rattle.canonical_nests.specs.Canonical.{seen_loop};
 ghost use Rattle.canonical_nests.specs.LoopRules.BreachSets.{least};

@@ -1,6 +1,6 @@
 //! What the functions of a program read and assign.
 
-ghost use Rattle.std.specs.Prelude.{◌≡◌, ◌∷◌, [], OnOk, Option, Some, None, bytes_eq, if◌then◌else◌};
+ghost use Rattle.std.specs.Prelude.{◌≡◌, ◌∷◌, [], OnOk, Option, Some, None};
 ghost use Rattle.std.specs.Option.{option_copied};
 ghost use Rattle.c_semantics.specs.Meaning.FileVariables as files;
 ghost use Rattle.loop_heads.specs.Touching.{AreSame, Gains, or_no_access};

@@ -1,6 +1,6 @@
 //! Names in the order in which their scopes were entered.
 
-ghost use Rattle.std.specs.Prelude.{◌≡◌, ◌≤◌, [], ◌∷◌, OnOk, length, map, reverse};
+ghost use Rattle.std.specs.Prelude.{◌≡◌, [], ◌∷◌, OnOk, length, map, reverse};
 ghost use Rattle.c_semantics.specs.Meaning.FileVariables.{has_name};
 ghost use Rattle.c_semantics.specs.Meaning.State.{keep};
 

@@ -130,7 +130,7 @@ module _ (n : ℕ) (env : Env) where
     fronts_agree p [] f a = a
     fronts_agree p (v ∷ h) f a = agrees_push v (h ++ p) (h ++ f) (fronts_agree p h f a)
 
-    fronts_free : (h f : List Var) → Foreign Out h → Foreign Out f → Foreign Out (h ++ f)
+    pub fronts_free : (h f : List Var) → Foreign Out h → Foreign Out f → Foreign Out (h ++ f)
     fronts_free [] f a b = b
     fronts_free (v ∷ h) f a b = (a.0, fronts_free h f a.1 b)
 

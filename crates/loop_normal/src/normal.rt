@@ -33,26 +33,27 @@ pub struct OwnedLoop {
     pub step: i64,
 }
 
-/// What a canonical loop runs through.
+/// What a canonical loop runs through: its values have the type `ty`, `test` is a comparison, and `step` is signed.
 #[derive(Debug, Drop)]
-struct SourceRange {
-    ty: Ty,
-    lb: Expr,
-    ub: Expr,
-    test: BinOp,
-    step: i64,
+pub struct SourceRange {
+    pub ty: Ty,
+    pub lb: Expr,
+    pub ub: Expr,
+    pub test: BinOp,
+    pub step: i64,
 }
 
-/// The fresh names of a normal form.
+/// The fresh names of a normal form: of its bounds, of its trip count and of the loop's counter.
 #[derive(Debug, Drop)]
-struct LoopNames {
-    begin: Name,
-    end: Name,
-    count: Name,
-    counter: Name,
+pub struct LoopNames {
+    pub begin: Name,
+    pub end: Name,
+    pub count: Name,
+    pub counter: Name,
 }
 
-fn draw_names(fresh: &mut Fresh) -> Result<LoopNames, AllocError>
+/// Draws the four names of a normal form, in the order of their fields. At want of memory any of them may have been drawn.
+pub fn draw_names(fresh: &mut Fresh) -> Result<LoopNames, AllocError>
     ensures begin { IfOk result (λ drawn. drawn.begin ≡ (names.loop_names fresh.old).begin) }
     ensures end { IfOk result (λ drawn. drawn.end ≡ (names.loop_names fresh.old).end) }
     ensures count { IfOk result (λ drawn. drawn.count ≡ (names.loop_names fresh.old).count) }
@@ -168,8 +169,8 @@ fn step_literal(alloc: Global, step: i64) -> Result<Expr, AllocError>
     }
 }
 
-/// `(ty)((long long)begin + counter * step)`.
-fn turn_value(
+/// `(ty)((long long)begin + counter * step)`, the value of a loop's variable in the turn that its counter says.
+pub fn turn_value(
     alloc: Global,
     ty: Ty,
     step: i64,
@@ -188,8 +189,9 @@ fn turn_value(
     cast(alloc, ty, binary(alloc, BinOp::Add, from, way)?)
 }
 
-/// The declarations that fix the bounds and the count, before others.
-fn bounds_front(
+/// The declarations that fix the bounds and the trip count of a loop, before others. The count is 0 where the step doesn't fit
+/// the test.
+pub fn bounds_front(
     alloc: Global,
     names: &LoopNames,
     range: SourceRange,

@@ -58,7 +58,8 @@ fn with_first_let(stmt: Stmt, looped: GenLoop) -> Result<GenLoop, AllocError>
     })
 }
 
-fn is_zero_literal(e: &Expr) -> bool
+/// Whether an expression is the literal 0 of the type `long long`, written in any way.
+pub fn is_zero_literal(e: &Expr) -> bool
     ensures { result ≡ t.is_zero_literal (bare_expr e.now) }
 {
     match e {

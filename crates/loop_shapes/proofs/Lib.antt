@@ -1,3 +1,4 @@
 pub mod FirstUnlike
 pub mod Listed
+pub mod Shaped
 pub mod Visibility

@@ -1,11 +1,10 @@
 -- The constructs in a statement by what it is, and in what a walk has left.
-use Rattle.std.proofs.Common.{◌≡◌, ◌∙◌, refl, sym, ap, subst, ◌<◌, ◌≤◌, ◌+◌, ◌-◌, ◌≢◌, ℕ, zero, suc, List, [], ◌∷◌, ◌++◌, map, length, drop, slice_index_or, arith}
+use Rattle.std.proofs.Common.{◌≡◌, ◌∙◌, refl, sym, ap, ◌<◌, ◌≤◌, ◌+◌, ◌-◌, ◌≢◌, ℕ, zero, suc, List, [], ◌∷◌, ◌++◌, map, length, drop, slice_index_or, arith}
 use Rattle.std.proofs.lemmas.List.{append_assoc, append-nil}
 use Rattle.c_tree.specs.Placed as p
 use Rattle.c_tree.specs.BareOf.{bare_top}
 use Rattle.c_tree.specs.PlacedOf.{placed_stmt, placed_stmts, placed_top}
 use Rattle.c_tree.specs.Forget.{forget_directive}
-use Rattle.c_tree.specs.WellFormed.{WellFormedTop, WellFormedTops}
 use Rattle.c_tree.specs.declared.tree.Item.{Item}
 use Rattle.c_tree.specs.declared.tree.Span.{Span}
 use Rattle.c_tree.specs.declared.tree.Stmt.{Stmt}
@@ -17,6 +16,7 @@ use Rattle.c_semantics.specs.Loops.Directives.{plan_of}
 use Rattle.c_semantics.specs.Loops.Need.{loops_asked}
 use Rattle.canonical_nests.specs.Constructs.{construct_of, stmt_constructs, stmts_constructs, top_constructs, constructs_from}
 use Rattle.canonical_nests.proofs.HeldTrees.{good_more}
+use Rattle.loop_counts.proofs.WellFormedItems.{top_well_formed}
 use Rattle.loop_shapes.specs.Own.{own_constructs}
 
 -- ---- a directive by itself
@@ -64,11 +64,6 @@ module _ (ds : List Define) (xs : List Item) (i : ℕ) where
 
   pub tops_end : length xs ≤ i → constructs_from ds (map placed_top (drop i xs)) ≡ []
   tops_end = rest_none (λ ys. constructs_from ds (map placed_top ys)) xs i
-
-pub top_well_formed : (xs : List Item) (i : ℕ) (x : Item) → i < length xs → x ≡ slice_index_or xs i x → WellFormedTops (map bare_top xs) → WellFormedTop (bare_top x)
-top_well_formed [] i x h at k = absurd (omega (arith, h))
-top_well_formed (y ∷ ys) zero x h at k = subst (λ z. WellFormedTop (bare_top z)) (sym at) k.0
-top_well_formed (y ∷ ys) (suc i) x h at k = top_well_formed ys i x (omega (arith, h)) at k.1
 
 pub ruleset items = (append-nil)
 

@@ -2,7 +2,7 @@
 -- is broken. A directive passes on what it asks of its body; a `for` takes one of the number and passes on the rest.
 use Rattle.std.specs.Prelude.{ℕ, zero, suc, ◌-◌, List, Option, Some, None}
 use Rattle.std.specs.Option.{option_or}
-use Rattle.c_tree.specs.Placed.{Stmt, for_, block, omp, Stmts, no_stmts, more_stmts}
+use Rattle.c_tree.specs.Placed.{Directive, Stmt, for_, block, omp, Stmts, no_stmts, more_stmts}
 use Rattle.c_tree.specs.Forget.{forget_directive, forget_head}
 use Rattle.c_semantics.specs.Meaning.Expressions.{Define}
 use Rattle.c_semantics.specs.Loops.CanonicalForm.{Canonical, canonical}
@@ -27,6 +27,10 @@ module _ (ds : List Define) where
     first_among zero as' = None
     first_among (suc m) no_stmts = None
     first_among (suc m) (more_stmts a as') = option_or (first_in (suc m) a) (first_among (suc m) as')
+
+  -- in what a directive takes of which a directive round it wants m loops, 0 where none does
+  abbrev pub first_taken : ℕ → Directive → Stmts → Option ℕ
+  first_taken m d a = first_among (loops_asked (plan_of ds (forget_directive d)) m) a
 
   -- the word `for` of the first loop that isn't canonical, of those that are affected where m loops are wanted
   abbrev pub first_unlike : ℕ → Stmt → Option ℕ

@@ -1,15 +1,15 @@
 //! The affected loops of a statement, and the first of them that isn't canonical.
 
-ghost use Rattle.std.specs.Prelude.{◌≡◌, ◌<◌, ◌-◌, IfOk};
-ghost use Rattle.c_tree.specs.BareOf.{bare_head, bare_stmt, bare_stmts};
-ghost use Rattle.c_tree.specs.PlacedOf.{placed_head, placed_stmt, placed_stmts};
+ghost use Rattle.std.specs.Prelude.{◌≡◌, ◌<◌, IfOk};
+ghost use Rattle.c_tree.specs.BareOf.{bare_directive, bare_head, bare_stmt, bare_stmts};
+ghost use Rattle.c_tree.specs.PlacedOf.{placed_directive, placed_head, placed_stmt, placed_stmts};
 ghost use Rattle.c_tree.specs.Forget.{forget_head};
-ghost use Rattle.c_tree.specs.WellFormed.{WellFormedHead, WellFormedStmt, WellFormedStmts};
+ghost use Rattle.c_tree.specs.WellFormed.{WellFormedDirective, WellFormedHead, WellFormedStmt, WellFormedStmts};
 ghost use Rattle.c_semantics.specs.Loops.CanonicalForm as form;
 ghost use Rattle.loop_shapes.specs.Affected as affected;
 ghost use Rattle.loop_shapes.specs.Affected.{unless_canonical};
 
-use c_tree::tree::{ForHead, Stmt};
+use c_tree::tree::{Directive, ForHead, Stmt};
 use canonical_nests::directive_plan::loops_asked_by;
 use loop_counts::heads::canonical;
 use loop_counts::scope::Scope;
@@ -55,8 +55,7 @@ fn first_in(
             body,
             ..
         } => {
-            let asked = loops_asked_by(alloc, scope, directive, wanted)?;
-            let below = first_among(alloc, body.as_slice(), scope, asked)?;
+            let below = first_taken(alloc, body.as_slice(), directive, scope, wanted)?;
             Ok(below)
         }
         Stmt::Decl { .. }
@@ -64,7 +63,8 @@ fn first_in(
         | Stmt::Step { .. }
         | Stmt::Print { .. }
         | Stmt::Input { .. }
-        | Stmt::If { .. }
+        | Stmt::If { no: None, .. }
+        | Stmt::If { no: Some(_), .. }
         | Stmt::While { .. }
         | Stmt::Do { .. }
         | Stmt::Break { .. }
@@ -72,6 +72,24 @@ fn first_in(
         | Stmt::Empty { .. }
         | Stmt::Call { .. } => Ok(None),
     }
+}
+
+/// The first in what a directive takes of which a directive round it wants so many loops, 0 where none does.
+#[cycle(first_in)]
+pub fn first_taken(
+    alloc: Global,
+    body: &[Stmt],
+    directive: &Directive,
+    scope: &Scope,
+    wanted: u64,
+) -> Result<Option<u64>, AllocError>
+    requires body { WellFormedStmts (bare_stmts body.now) }
+    requires directive { WellFormedDirective (bare_directive directive.now) }
+    ensures { IfOk result (λ place. place ≡ affected.first_taken scope.now.defines wanted (placed_directive directive.now) (placed_stmts body.now)) }
+{
+    let asked = loops_asked_by(alloc, scope, directive, wanted)?;
+    let place = first_among(alloc, body, scope, asked)?;
+    Ok(place)
 }
 
 /// The first among statements, of each of which so many loops are wanted.

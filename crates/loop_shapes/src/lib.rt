@@ -4,3 +4,7 @@
 pub mod affected;
 pub mod constructs;
 pub mod seen;
+pub mod shape;
+pub mod shapes;
+#[cfg(test)]
+mod tests;

@@ -10,10 +10,10 @@ use Rattle.c_semantics.specs.Loops.Directives.{plan_of}
 use Rattle.c_semantics.specs.Loops.Need.{loops_asked}
 use Rattle.canonical_nests.specs.declared.rules.LoopBreach.{LoopBreach}
 use Rattle.canonical_nests.specs.LoopRules.BreachSets.{BreachSet, or_else, lesser, least}
-use Rattle.canonical_nests.specs.LoopRules.Structure.{stmt_breaches, stmts_breaches, body_breaches, construct_breaches}
+use Rattle.canonical_nests.specs.LoopRules.Structure.{stmt_breaches, stmts_breaches, body_breaches}
 use Rattle.canonical_nests.proofs.Order.{lesser_joins, lesser_none, else_first, else_second}
 use Rattle.canonical_nests.proofs.HeldTrees.{directive_held, good_more}
-use Rattle.loop_structure.specs.Wanted.{first_of, wanted_least}
+use Rattle.loop_structure.specs.Wanted.{first_of, directive_breaches, wanted_least}
 
 first_is : (xs ys : BreachSet) → least (or_else xs ys) ≡ first_of (least xs) (least ys)
 first_is xs ys = by_first (least xs) refl
@@ -26,7 +26,7 @@ module _ (ds : List Define) where
   some_wanted : (m : ℕ) (s : p.Stmt) → least (stmt_breaches ds (suc m) s) ≡ wanted_least ds (suc m) s
   some_wanted m (p.for_ h a s) = let e : m ≡ suc m - 1 = omega arith in ap (λ n. least (stmts_breaches ds n a)) e
   some_wanted m (p.block a s) = refl
-  some_wanted m (p.omp d a s) = first_is (stmts_breaches ds (loops_asked (plan_of ds (forget_directive d)) (suc m)) a) (body_breaches ds d a)
+  some_wanted m (p.omp d a s) = refl
   some_wanted m (p.decl t x at e s) = refl
   some_wanted m (p.set t o e s) = refl
   some_wanted m (p.step t up s) = refl
@@ -41,7 +41,10 @@ module _ (ds : List Define) where
   some_wanted m (p.empty s) = refl
   some_wanted m (p.call x at es s) = refl
 
-  are_wanted : (m : ℕ) (s : p.Stmt) → m ≢ 0 → least (stmt_breaches ds m s) ≡ wanted_least ds m s
+  pub without_loops : (m : ℕ) (s : p.Stmt) → m ≡ 0 → least (stmt_breaches ds m s) ≡ None
+  without_loops m s is = ap (λ n. least (stmt_breaches ds n s)) is
+
+  pub are_wanted : (m : ℕ) (s : p.Stmt) → m ≢ 0 → least (stmt_breaches ds m s) ≡ wanted_least ds m s
   are_wanted zero s some = absurd (some refl)
   are_wanted (suc m) s some = some_wanted m s
 
@@ -61,14 +64,16 @@ module _ (ds : List Define) where
   pub wanted_end : (m : ℕ) (xs : List Stmt) (i : ℕ) → length xs ≤ i → least (stmts_breaches ds m (placed_stmts (drop i xs))) ≡ None
   wanted_end m xs i = rest_none (λ ys. least (stmts_breaches ds m (placed_stmts ys))) xs i
 
-  pub construct_is : (d : p.Directive) (a : p.Stmts)
-      → least (construct_breaches ds d a) ≡ first_of (least (stmts_breaches ds (loops_asked (plan_of ds (forget_directive d)) 0) a)) (least (body_breaches ds d a))
-  construct_is d a = first_is (stmts_breaches ds (loops_asked (plan_of ds (forget_directive d)) 0) a) (body_breaches ds d a)
+  pub directive_is : (m : ℕ) (d : p.Directive) (a : p.Stmts)
+      → least (directive_breaches ds m d a) ≡ first_of (least (stmts_breaches ds (loops_asked (plan_of ds (forget_directive d)) m) a)) (least (body_breaches ds d a))
+  directive_is m d a = first_is (stmts_breaches ds (loops_asked (plan_of ds (forget_directive d)) m) a) (body_breaches ds d a)
 
 pub ruleset held = (directive_held)
 
 pub ruleset wanted = (lesser_none)
 
-pub ruleset constructs = (construct_is)
+pub ruleset statements = (without_loops, are_wanted)
+
+pub ruleset directives = (directive_is)
 
 pub ruleset wanted_walks = (none_wanted, wanted_more, wanted_end, good_more, lesser_joins, lesser_none)

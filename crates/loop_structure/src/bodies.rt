@@ -1,6 +1,6 @@
 //! What stands in a directive's body, where none of it breaks a rule.
 
-ghost use Rattle.std.specs.Prelude.{◌≡◌, ◌<◌, ◌+◌, ◌^◌, ◌≢◌, length, map, IfOk};
+ghost use Rattle.std.specs.Prelude.{◌≡◌, ◌<◌, ◌+◌, ◌^◌, map, IfOk};
 ghost use Rattle.c_tree.specs.BareOf.{bare_directive, bare_stmts};
 ghost use Rattle.c_tree.specs.PlacedOf.{placed_stmt, placed_stmts, placed_kind, placed_clauses, placed_directive};
 ghost use Rattle.c_tree.specs.WellFormed.{WellFormedDirective, WellFormedStmts};

@@ -3,13 +3,10 @@
 ghost use Rattle.std.specs.Prelude.{◌≡◌, ◌<◌, IfOk};
 ghost use Rattle.c_tree.specs.BareOf.{bare_directive, bare_stmt, bare_stmts};
 ghost use Rattle.c_tree.specs.PlacedOf.{placed_directive, placed_stmt, placed_stmts};
-ghost use Rattle.c_tree.specs.Forget.{forget_directive};
 ghost use Rattle.c_tree.specs.WellFormed.{WellFormedDirective, WellFormedStmt, WellFormedStmts};
-ghost use Rattle.c_semantics.specs.Loops.Directives as directives;
-ghost use Rattle.c_semantics.specs.Loops.Need as need;
 ghost use Rattle.canonical_nests.specs.LoopRules.BreachSets.{least};
 ghost use Rattle.canonical_nests.specs.LoopRules.Structure as structure;
-ghost use Rattle.loop_structure.specs.Wanted.{first_of, wanted_least};
+ghost use Rattle.loop_structure.specs.Wanted.{first_of, directive_breaches, wanted_least};
 
 use crate::bodies::body_breach;
 use c_tree::tree::{Directive, Stmt};
@@ -58,10 +55,8 @@ fn stmt_breach<C: Constants>(
             body,
             ..
         } => {
-            let asked = loops_asked_by(alloc, constants, directive, wanted)?;
-            let below = stmts_breach(alloc, constants, body.as_slice(), asked)?;
-            let own = body_breach(alloc, constants, directive, body.as_slice())?;
-            Ok(or_else(below, own))
+            let breach = directive_breach(alloc, constants, body.as_slice(), directive, wanted)?;
+            Ok(breach)
         }
         Stmt::Decl { .. } => Ok(None),
         Stmt::Set { .. } => Ok(None),
@@ -77,6 +72,26 @@ fn stmt_breach<C: Constants>(
         Stmt::Empty { .. } => Ok(None),
         Stmt::Call { .. } => Ok(None),
     }
+}
+
+/// The least breach of structure in the directives that have to give loops where a directive round a statement wants so
+/// many of it, by place and then by rule, and `None` exactly where there is none.
+#[tactic(auto, using(crate::proofs::WantedWalks::statements))]
+pub fn wanted_breach<C: Constants>(
+    alloc: Global,
+    constants: &C,
+    stmt: &Stmt,
+    wanted: u64,
+) -> Result<Option<LoopBreach>, AllocError>
+    requires held { C.are_held constants.now }
+    requires well_formed { WellFormedStmt (bare_stmt stmt.now) }
+    ensures { IfOk result (λ b. b ≡ least (structure.stmt_breaches (C.defines constants.now) wanted (placed_stmt stmt.now))) }
+{
+    if wanted == 0 {
+        return Ok(None);
+    }
+    let breach = stmt_breach(alloc, constants, stmt, wanted)?;
+    Ok(breach)
 }
 
 #[tactic(auto, using(crate::proofs::WantedWalks::wanted_walks))]
@@ -102,9 +117,30 @@ fn stmts_breach<C: Constants>(
     Ok(found)
 }
 
+/// The least breach of structure in a directive of which a directive round it wants so many loops, 0 where none does: in
+/// the directives that it takes, else in its own (L1, L7 and L19 to L22).
+#[tactic(auto, using(crate::proofs::WantedWalks::directives))]
+#[cycle(stmt_breach)]
+pub fn directive_breach<C: Constants>(
+    alloc: Global,
+    constants: &C,
+    body: &[Stmt],
+    directive: &Directive,
+    wanted: u64,
+) -> Result<Option<LoopBreach>, AllocError>
+    requires held { C.are_held constants.now }
+    requires body { WellFormedStmts (bare_stmts body.now) }
+    requires directive { WellFormedDirective (bare_directive directive.now) }
+    ensures { IfOk result (λ b. b ≡ least (directive_breaches (C.defines constants.now) wanted (placed_directive directive.now) (placed_stmts body.now))) }
+{
+    let asked = loops_asked_by(alloc, constants, directive, wanted)?;
+    let below = stmts_breach(alloc, constants, body, asked)?;
+    let own = body_breach(alloc, constants, directive, body)?;
+    Ok(or_else(below, own))
+}
+
 /// The least breach of structure in a construct (L1, L7 and L19 to L22), by place and then by rule, and `None` exactly
 /// where there is none: in the directives that it takes, else in its own. Other constructs in its body are not looked at.
-#[tactic(auto, using(crate::proofs::WantedWalks::constructs))]
 pub fn construct_breach<C: Constants>(
     alloc: Global,
     constants: &C,
@@ -116,8 +152,6 @@ pub fn construct_breach<C: Constants>(
     requires body { WellFormedStmts (bare_stmts body.now) }
     ensures { IfOk result (λ b. b ≡ least (structure.construct_breaches (C.defines constants.now) (placed_directive directive.now) (placed_stmts body.now))) }
 {
-    let asked = loops_asked_by(alloc, constants, directive, 0)?;
-    let below = stmts_breach(alloc, constants, body, asked)?;
-    let own = body_breach(alloc, constants, directive, body)?;
-    Ok(or_else(below, own))
+    let breach = directive_breach(alloc, constants, body, directive, 0)?;
+    Ok(breach)
 }

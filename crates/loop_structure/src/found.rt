@@ -1,6 +1,6 @@
 //! The depths of the nests that a statement gives to a directive round it.
 
-ghost use Rattle.std.specs.Prelude.{◌≡◌, ◌≢◌, length, IfOk};
+ghost use Rattle.std.specs.Prelude.{◌≡◌, IfOk};
 ghost use Rattle.std.specs.Option.{option_map};
 ghost use Rattle.c_tree.specs.BareOf.{bare_directive, bare_stmt, bare_stmts};
 ghost use Rattle.c_tree.specs.PlacedOf.{placed_directive};

@@ -3,7 +3,6 @@ pub mod Caps
 pub mod Choices
 pub mod Constructs
 pub mod Copies
-pub mod Functions
 pub mod Items
 pub mod Lists
 pub mod Scopes

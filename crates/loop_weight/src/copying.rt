@@ -1,6 +1,6 @@
 //! How often a directive copies what stands in the loops that it takes: the product over it and all its items.
 
-ghost use Rattle.std.specs.Prelude.{◌≡◌, map, get_or, IfOk};
+ghost use Rattle.std.specs.Prelude.{◌≡◌, map, IfOk};
 ghost use Rattle.canonical_nests.specs.Kinds as kinds;
 ghost use Rattle.canonical_nests.specs.Weight as weight;
 ghost use Rattle.canonical_nests.specs.Weight.{capped_weight};

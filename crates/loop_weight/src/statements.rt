@@ -1,7 +1,7 @@
 //! The weights of statements: 1 and the weights of the expressions and statements in them, where a directive multiplies
 //! what it copies, and adds for the loops that it generates.
 
-ghost use Rattle.std.specs.Prelude.{◌≡◌, ◌-◌, ◌+◌, ◌*◌, IfOk, OnOk};
+ghost use Rattle.std.specs.Prelude.{◌≡◌, ◌-◌, ◌+◌, IfOk, OnOk};
 ghost use Rattle.std.specs.Option.{option_map};
 ghost use Rattle.c_tree.specs.BareOf.{bare_directive, bare_expr, bare_head, bare_stmt, bare_stmts, maybe_stmt};
 ghost use Rattle.c_tree.specs.WellFormed.{WellFormedDirective, WellFormedHead, WellFormedPart, WellFormedStmt, WellFormedStmts};

@@ -1,6 +1,6 @@
 //! The weight of a program, and the rule that bounds it.
 
-ghost use Rattle.std.specs.Prelude.{◌≡◌, ◌++◌, [], map, IfOk, OnOk};
+ghost use Rattle.std.specs.Prelude.{◌≡◌, [], map, IfOk, OnOk};
 ghost use Rattle.c_tree.specs.BareOf.{bare_param, bare_stmts, bare_top, bare_program};
 ghost use Rattle.c_tree.specs.PlacedOf.{placed_program};
 ghost use Rattle.c_tree.specs.WellFormed.{WellFormedStmts, WellFormedTop, WellFormedTops};
@@ -20,22 +20,8 @@ use canonical_nests::rules::{LoopBreach, LoopRule};
 use loop_counts::scope::Scope;
 use std::alloc::{AllocError, Global};
 
-/// Makes the parameters of a function visible, the first one innermost.
-#[tactic(auto, using(crate::proofs::Functions::params))]
-fn declare_params<'p>(scope: &mut Scope<'p>, params: &'p [Param]) -> Result<(), AllocError>
-    ensures { OnOk result (scope.new ≡ record scope.old { state = with_frame (params_frame (map bare_param params.now) ++ scope.old.state.frame) scope.old.state }) }
-{
-    let mut left = params.len();
-    'each: while left > 0 {
-        left -= 1;
-        let param = &params[left];
-        scope.declare(&param.name, param.ty)?;
-    }
-    Ok(())
-}
-
 /// The weight of a function's body, where no variable but those of the file is visible round it.
-#[tactic(auto, using(crate::proofs::Functions::functions))]
+#[tactic(auto, using(loop_counts::proofs::Parameters::functions))]
 fn function_weight<'p>(
     alloc: Global,
     params: &'p [Param],
@@ -47,7 +33,7 @@ fn function_weight<'p>(
     ensures weight { IfOk result (λ n. n ≡ capped_weight (weight.stmts_weight scope.old.defines (with_frame (params_frame (map bare_param params.now)) scope.old.state) 0 (bare_stmts body.now))) }
     ensures scope { OnOk result (scope.new ≡ scope.old) }
 {
-    declare_params(scope, params)?;
+    scope.declare_params(params)?;
     let weight = stmts_weight(alloc, body, 0, scope)?;
     scope.keep(0);
     Ok(weight)

@@ -1,11 +1,11 @@
 -- Which command the words ask for, and when its answer is complete.
-use Rattle.std.proofs.Common.{◌≡◌, ℕ, ◌<◌, ◌≤◌, ℤ, List, [], ◌∷◌, Option, Some, None, length, map, IfSome, ◌⊎◌, refl, sym, ap, subst, inl, inr, ◌∙◌, arith, codes}
+use Rattle.std.proofs.Common.{◌≡◌, ℕ, ℤ, List, [], ◌∷◌, Option, Some, None, map, IfSome, ◌⊎◌, refl, sym, ap, subst, inl, inr, ◌∙◌, arith, codes}
 use Rattle.std.specs.Prelude.{string_bytes}
 use Rattle.std.specs.Str.Parse.{digits_value}
 use Rattle.translator.proofs.OneAnswer.{accepted_or_refused}
-use Rattle.loopx.specs.Answer.{greatest_length, FitsText, IsComplete}
+use Rattle.loopx.specs.Answer.{FitsText, IsComplete}
 use Rattle.loopx.specs.Commands.{AsksFor}
-use Rattle.loopx.specs.Words.{IsBound, Command, translate, run, Asks, AllNumbers, AreNumbers, AskForNothing}
+use Rattle.loopx.specs.Words.{IsBound, Command, translate, run, Asks, AreNumbers, AskForNothing}
 use Rattle.loopx.specs.declared.command.Command as code
 use Rattle.loopx.specs.declared.command.Command.TheVariants as v
 use Rattle.loopx.specs.declared.status.Status.{Status}

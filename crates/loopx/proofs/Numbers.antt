@@ -1,7 +1,7 @@
 -- Words, and the numbers that they spell.
-use Rattle.std.proofs.Common.{refl, ◌≡◌, ℕ, ◌<◌, ◌≤◌, ℤ, List, [], ◌∷◌, length, map, take, drop, slice_index_or, ◌-◌, ap, sym, ◌∙◌, arith, codes}
+use Rattle.std.proofs.Common.{refl, ◌≡◌, ℕ, ◌<◌, ◌≤◌, ℤ, List, [], ◌∷◌, length, map, take, drop, slice_index_or, ◌-◌, ap, sym, ◌∙◌, arith}
 use Rattle.std.proofs.Math.Seq.{take-length}
-use Rattle.loopx.specs.Words.{IsBound, IsNumber, AreNumbers, AllNumbers, Command, translate, run, Asks}
+use Rattle.loopx.specs.Words.{AreNumbers, AllNumbers}
 
 -- a list of one item, under a function
 pub one_item : {A : Type 0} (f : A → List ℕ) (xs : List A) (x : A) → 1 ≤ length xs → length xs < 2 → x ≡ slice_index_or xs 0 x → map f xs ≡ f x ∷ []

@@ -1,5 +1,5 @@
 -- What is told, as it comes from the text.
-use Rattle.std.proofs.Common.{◌≡◌, ℕ, ℤ, ◌≤◌, ◌++◌, List, [], Option, Some, None, length, IfSome, refl, sym, subst, inr, append-nil}
+use Rattle.std.proofs.Common.{◌≡◌, ℕ, ℤ, ◌≤◌, List, [], Option, Some, None, length, IfSome, refl, sym, subst, inr, append-nil}
 use Rattle.outside_io.specs.Bytes.{Gains, GainsPrefix}
 use Rattle.c_tree.specs.Bare.{Program}
 use Rattle.c_tree.specs.declared.arithmetic.Trap.{Trap}

@@ -10,7 +10,7 @@ use Rattle.translator.specs.declared.refusal.Refusal.{Refusal}
 use Rattle.loopx.specs.Lines.{refusal_line, trap_line}
 use Rattle.loopx.specs.Words.{Command, translate, run}
 use Rattle.loopx.specs.declared.status.Status.{Status}
-use Rattle.loopx.specs.declared.status.Status.TheVariants.{Done, Refused, Usage, ReadFault, WriteFault, Memory, TooLong, Trapped, Cut}
+use Rattle.loopx.specs.declared.status.Status.TheVariants.{Done, Refused, ReadFault, Memory, TooLong, Trapped, Cut}
 
 -- the most bytes of a text
 abbrev pub greatest_length : ℕ

@@ -1,5 +1,5 @@
 -- What the code's command stands for.
-use Rattle.std.specs.Prelude.{◌≡◌, ℕ, ℤ, List, [], ◌∷◌, map, string_bytes, codes}
+use Rattle.std.specs.Prelude.{◌≡◌, ℕ, List, [], ◌∷◌, map, string_bytes, codes}
 use Rattle.loopx.specs.Words.{IsBound, AllNumbers}
 use Rattle.loopx.specs.declared.command.Command.{Command}
 use Rattle.loopx.specs.declared.command.Command.TheVariants.{Translate, Run}

@@ -1,7 +1,5 @@
 -- What is told on the diagnostic stream, and what that says of the text.
 use Rattle.std.specs.Prelude.{◌≡◌, ◌≤◌, ◌<◌, ℕ, List, codes, length, ⊤}
-use Rattle.c_tree.specs.declared.arithmetic.Trap.{Trap}
-use Rattle.c_semantics.specs.Meaning.Programs.{Stopped, CutOff}
 use Rattle.outside_io.specs.declared.reading.ReadEnd.{ReadEnd}
 use Rattle.outside_io.specs.declared.reading.ReadEnd.TheVariants as end
 use Rattle.translator.specs.declared.refusal.Refusal.{Refusal}

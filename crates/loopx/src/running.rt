@@ -1,6 +1,6 @@
 //! The command that runs.
 
-ghost use Rattle.std.specs.Prelude.{◌≡◌, ◌≢◌, ◌⊎◌, ◌≤◌, ℕ, ℤ, List, true, length, IfSome, IfOk, IfErr, OnOk, OnErr, Err, map, string_bytes};
+ghost use Rattle.std.specs.Prelude.{◌≡◌, ◌≢◌, ◌⊎◌, ◌≤◌, ℤ, List, true, length, IfSome, IfOk, IfErr, OnOk, OnErr, Err, map, string_bytes};
 ghost use Rattle.c_tree.specs.BareOf.{bare_program};
 ghost use Rattle.c_semantics.specs.Meaning.Programs.{outcome};
 ghost use Rattle.c_meaning.specs.Ends.{finish_of};

@@ -1,6 +1,6 @@
 //! The command that translates.
 
-ghost use Rattle.std.specs.Prelude.{◌≡◌, ◌≢◌, ◌⊎◌, ◌≤◌, ℕ, List, length, IfSome, IfOk, IfErr, OnOk};
+ghost use Rattle.std.specs.Prelude.{◌≡◌, ◌≢◌, ◌⊎◌, ◌≤◌, length, IfSome, IfOk, IfErr, OnOk};
 ghost use Rattle.outside_io.specs.Bytes.{TakesAll};
 ghost use Rattle.outside_io.specs.Faults.{Rose};
 ghost use Rattle.translator.specs.Answers.{IsAccepted, IsTranslation};

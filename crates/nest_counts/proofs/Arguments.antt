@@ -1,24 +1,24 @@
 -- The rules of clauses say that the arguments of a directive and of its items fit.
 use Rattle.std.proofs.Common.{◌≡◌, refl, sym, ap, subst, ℕ, zero, suc, ◌+◌, ◌<◌, ◌≤◌, List, [], ◌∷◌, map, length, Option, Some, None, Bool, true, false, ℤ, pos, negsuc, nat_abs, get_or, arith}
-use Rattle.std.specs.Prelude.{◌&&◌, not, nat_le, nat_lt, unwrap_or, if◌then◌else◌}
+use Rattle.std.specs.Prelude.{◌&&◌, not, ◌==◌, nat_le, nat_lt, unwrap_or, if◌then◌else◌}
 use Rattle.std.specs.List.{list_any}
-use Rattle.std.proofs.lemmas.Bool.{leb-true, and_parts, or_parts}
+use Rattle.std.proofs.lemmas.Bool.{leb-true, eqb-true, and_parts, or_parts}
 use Rattle.c_tree.specs.Bare as b
-use Rattle.c_tree.specs.Placed.{expr_list, Exprs, no_exprs, more_exprs, Directive, directive, Clauses, no_clauses, more_clauses, clause, ClauseKind, sizes, permutation, counts, looprange, full, partial, apply, Items, no_items, more_items, nothing, acts}
-use Rattle.c_tree.specs.Forget.{forget_expr, forget_exprs, forget_clauses, forget_kind, forget_items, forget_directive}
+use Rattle.c_tree.specs.Placed.{expr_list, Count, Exprs, no_exprs, more_exprs, Directive, directive, Clauses, no_clauses, more_clauses, clause, ClauseKind, sizes, permutation, counts, looprange, full, partial, apply, Items, no_items, more_items, nothing, acts}
+use Rattle.c_tree.specs.Forget.{forget_expr, forget_exprs, forget_count, forget_clauses, forget_kind, forget_items, forget_directive}
 use Rattle.c_tree.specs.declared.tree.Kind.{Kind}
 use Rattle.c_tree.specs.declared.tree.Kind.TheVariants.{Tile, Unroll, Interchange, Reverse, Split, Fuse}
 use Rattle.c_semantics.specs.Meaning.Expressions.{Define, constant}
 use Rattle.c_semantics.specs.Loops.Transformations.{Plan, plan, Applied, none_applied, applied_at, unroll_full, unroll_partial}
-use Rattle.c_semantics.specs.Loops.Directives.{number, sizes_in, permutation_in, full_in, factor_in, transformation_of, insert, before, first_place, later_places, plan_of, clauses_items, clause_items, put_items}
-use Rattle.canonical_nests.specs.declared.rules.LoopRule.TheVariants.{L10, L14, L23}
+use Rattle.c_semantics.specs.Loops.Directives.{number, sizes_in, permutation_in, counts_in, full_in, factor_in, count_of, transformation_of, insert, before, first_place, later_places, plan_of, clauses_items, clause_items, put_items}
+use Rattle.canonical_nests.specs.declared.rules.LoopRule.TheVariants.{L10, L11, L14, L17, L23}
 use Rattle.canonical_nests.specs.LoopRules.BreachSets.{HasNone}
-use Rattle.canonical_nests.specs.LoopRules.Clauses.{is_from, is_constant_from, numbers, all_different, are_from_one_to, size_breaches, is_permutation_of, is_fuse, item_list, fits_modifier, modifier_is_wrong, also_taken, loops_of_kind, directive_breaches, clauses_breaches, clause_breaches, items_breaches}
+use Rattle.canonical_nests.specs.LoopRules.Clauses.{is_from, is_constant_from, numbers, all_different, are_from_one_to, size_breaches, fills, has_kind, is_counts, required_breaches, is_permutation_of, is_fuse, item_list, fits_modifier, modifier_is_wrong, also_taken, loops_of_kind, directive_breaches, clauses_breaches, clause_breaches, items_breaches}
 use Rattle.nest_counts.specs.Plans.{AllPositive, IsOrder}
 use Rattle.nest_counts.specs.Found.{ArgumentFits, ArgumentsFit, ItemsFit, IsNoFuse}
 use Rattle.nest_counts.specs.Laws.{ArgumentsOfRulesFit}
 use Rattle.nest_counts.proofs.Orders.{permutations_are_orders}
-use Rattle.nest_counts.proofs.Tests.{none_if, none_unless}
+use Rattle.canonical_nests.proofs.BreachSets.{none_if, none_unless}
 
 -- ---- numbers
 
@@ -79,17 +79,28 @@ module _ (ds : List Define) where
       subst IsOrder (sym (numbers_are es)) (permutation_is_order es (none_unless (is_permutation_of ds es) L14 _ h.1.1.0))
   permutation_fits k n earlier taken (more_clauses (clause c s) cs) h = permutation_fits k n (c ∷ earlier) (also_taken ds n c taken) cs h.1.1.1
 
+  -- with one `omp_fill`, as the rules say, there is a count
+  some_counted : (bs : List Count) → (fills bs == 1) ≡ true → 0 < length (map (count_of ds) (map forget_count bs))
+  some_counted [] e = absurd (let z : 0 ≡ 1 = eqb-true 0 1 e in omega arith)
+  some_counted (c ∷ bs) e = omega arith
+
+  counts_fit : (k : Kind) (n : ℕ) (earlier : List ClauseKind) (taken : List ℕ) (cs : Clauses) → HasNone (clauses_breaches ds k n earlier taken cs) → has_kind is_counts cs ≡ true
+      → 0 < length (map (count_of ds) (counts_in (forget_clauses cs)))
+  counts_fit k n earlier taken no_clauses h has = absurd (cc)
+  counts_fit k n earlier taken (more_clauses (clause (counts bs) s) cs) h has = some_counted bs (none_unless (fills bs == 1) L17 _ h.1.1.0.0)
+  counts_fit k n earlier taken (more_clauses (clause c s) cs) h has = counts_fit k n (c ∷ earlier) (also_taken ds n c taken) cs h.1.1.1 has
+
   unrolled_fits : (b : Bool) (factor : ℕ) → ArgumentFits (if b then unroll_full else unroll_partial factor)
   unrolled_fits true factor = tt
   unrolled_fits false factor = tt
 
-  argument_fits : (k : Kind) (n : ℕ) (cs : Clauses) → HasNone (clauses_breaches ds k n [] [] cs) → ArgumentFits (transformation_of ds k (forget_clauses cs))
-  argument_fits Tile n cs h = sizes_fit Tile n [] [] cs h
-  argument_fits Unroll n cs h = unrolled_fits (full_in (forget_clauses cs)) (factor_in ds (forget_clauses cs))
-  argument_fits Interchange n cs h = permutation_fits Interchange n [] [] cs h
-  argument_fits Reverse n cs h = tt
-  argument_fits Split n cs h = tt
-  argument_fits Fuse n cs h = tt
+  argument_fits : (k : Kind) (n : ℕ) (cs : Clauses) (at : ℕ) → HasNone (required_breaches k cs at) → HasNone (clauses_breaches ds k n [] [] cs) → ArgumentFits (transformation_of ds k (forget_clauses cs))
+  argument_fits Tile n cs at r h = sizes_fit Tile n [] [] cs h
+  argument_fits Unroll n cs at r h = unrolled_fits (full_in (forget_clauses cs)) (factor_in ds (forget_clauses cs))
+  argument_fits Interchange n cs at r h = permutation_fits Interchange n [] [] cs h
+  argument_fits Reverse n cs at r h = tt
+  argument_fits Split n cs at r h = counts_fit Split n [] [] cs h (none_unless (has_kind is_counts cs) L11 at r)
+  argument_fits Fuse n cs at r h = tt
 
   -- ---- items
 
@@ -101,7 +112,7 @@ module _ (ds : List Define) where
       by true below = (other, fits, rest)
       by false below = (rest.0, rest.1, below)
 
-  is_other : (d : Directive) → is_fuse (acts d) ≡ false → IsNoFuse (plan_of ds (forget_directive d))
+  pub is_other : (d : Directive) → is_fuse (acts d) ≡ false → IsNoFuse (plan_of ds (forget_directive d))
   is_other (directive Fuse cs s) h = absurd (cc)
   is_other (directive Tile cs s) h = tt
   is_other (directive Unroll cs s) h = by (full_in (forget_clauses cs))
@@ -116,7 +127,7 @@ module _ (ds : List Define) where
   mutual
     directive_fits : (d : Directive) → HasNone (directive_breaches ds d) → ArgumentsFit (plan_of ds (forget_directive d))
     directive_fits (directive k cs s) h = (
-      argument_fits k (loops_of_kind k cs) cs h.1,
+      argument_fits k (loops_of_kind k cs) cs s.start h.0 h.1,
       clauses_fit k (loops_of_kind k cs) [] [] cs (length (sizes_in (forget_clauses cs))) none_applied h.1 tt,
     )
 

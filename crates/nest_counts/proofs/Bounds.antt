@@ -18,7 +18,7 @@ use Rattle.canonical_nests.specs.LoopRules.Heads as heads
 use Rattle.canonical_nests.specs.LoopRules.Heads.{Changes, is_file_variable, some_may_assign, is_changed, read_breaches, bound_reads, scope_below, init_of, round_with, loop_breaches}
 use Rattle.nest_counts.specs.Bounds.{IsInvariant, EachInvariant, BoundsOf, StmtBounds, StmtsBounds}
 use Rattle.nest_counts.specs.Laws.{BoundsAreInvariant}
-use Rattle.nest_counts.proofs.Tests.{none_if}
+use Rattle.canonical_nests.proofs.BreachSets.{none_if}
 
 not_both : (a b : Bool) → (a && b) ≡ false → a ≡ true → b ≡ false
 not_both true b h e = h

@@ -22,7 +22,7 @@ use Rattle.nest_counts.proofs.TilePlaces.{length_grids, length_tiles}
 use Rattle.nest_counts.proofs.InterchangePart.{length_order}
 use Rattle.nest_counts.proofs.SplitParts.{length_counts}
 use Rattle.nest_counts.proofs.Tile.{get_drop}
-use Rattle.nest_counts.proofs.Tests.{none_if}
+use Rattle.canonical_nests.proofs.BreachSets.{none_if}
 
 -- ---- lengths of parts
 
@@ -165,7 +165,7 @@ pub some_then : (o : Option (List ℕ)) (f : List ℕ → Option (List ℕ)) (es
 some_then None f es e = absurd (cc)
 some_then (Some ds) f es e = (ds, (refl, e))
 
-append_reach : (k : ℕ) (ps qs : List Part) → AllReach k ps → AllReach k qs → AllReach k (ps ++ qs)
+pub append_reach : (k : ℕ) (ps qs : List Part) → AllReach k ps → AllReach k qs → AllReach k (ps ++ qs)
 append_reach k [] qs h r = r
 append_reach k (p ∷ ps) qs h r = (h.0, append_reach k ps qs h.1 r)
 
@@ -280,40 +280,53 @@ of_first (plan (fuse r) at w) k qs X n e h = absurd n
 of_first (plan unroll_full at w) k qs X n e h = subst (λ Y. HasNone (counts.plan_breaches (plan unroll_full at w) k (Y ∷ []))) e h
 of_first (plan (unroll_partial s) at w) k qs X n e h = subst (λ Y. HasNone (counts.plan_breaches (plan (unroll_partial s) at w) k (Y ∷ []))) e h
 
--- `fuse` stands below no loop
-abbrev MayStand : Transformation → ℕ → Type 0
-MayStand (fuse r) k = k ≡ 0
-MayStand _ k = Unit {0}
+-- `fuse` stands below no loop, and any other on a part
+abbrev MayStand : Transformation → ℕ → List Part → Type 0
+MayStand (fuse r) k ps = k ≡ 0
+MayStand _ k ps = 0 < length ps
 
-parts_found : (c : Transformation) (at k : ℕ) (ps : List Part) → ArgumentFits c → 0 < length ps → MayStand c k → AllReach k ps → all_at_least (takes c) (lengths_below k ps) ≡ true → HasNone (counts.taken_breaches c at k ps) → FindsParts c k ps
-parts_found (tile ss) at k ps fit some may r least none =
+parts_found : (c : Transformation) (at k : ℕ) (ps : List Part) → ArgumentFits c → MayStand c k ps → AllReach k ps → all_at_least (takes c) (lengths_below k ps) ≡ true → HasNone (counts.taken_breaches c at k ps) → FindsParts c k ps
+parts_found (tile ss) at k ps fit some r least none =
     let a : length ss ≤ length (get_or ps 0 no_part) - k = first_least (length ss) k ps some least in
     let b : k ≤ length (get_or ps 0 no_part) = first_reach k ps some r in
     (some, (fit, omega arith, none_if (depend_on_another k (length ss) (get_or ps 0 no_part)) L8 at none))
-parts_found (interchange qs) at k ps fit some may r least none =
+parts_found (interchange qs) at k ps fit some r least none =
     let a : length qs ≤ length (get_or ps 0 no_part) - k = first_least (length qs) k ps some least in
     let b : k ≤ length (get_or ps 0 no_part) = first_reach k ps some r in
     (some, (fit, omega arith, none_if (depend_on_another k (length qs) (get_or ps 0 no_part)) L8 at none))
-parts_found (fuse x) at k ps fit some may r least none = may
-parts_found reverse_ at k ps fit some may r least none = let a : 1 ≤ length (get_or ps 0 no_part) - k = first_least 1 k ps some least in (some, omega arith)
-parts_found (split cs) at k ps fit some may r least none = let a : 1 ≤ length (get_or ps 0 no_part) - k = first_least 1 k ps some least in (some, omega arith)
-parts_found unroll_full at k ps fit some may r least none = let a : 1 ≤ length (get_or ps 0 no_part) - k = first_least 1 k ps some least in (some, omega arith)
-parts_found (unroll_partial s) at k ps fit some may r least none = let a : 1 ≤ length (get_or ps 0 no_part) - k = first_least 1 k ps some least in (some, omega arith)
+parts_found (fuse x) at k ps fit may r least none = may
+parts_found reverse_ at k ps fit some r least none = let a : 1 ≤ length (get_or ps 0 no_part) - k = first_least 1 k ps some least in (some, omega arith)
+parts_found (split cs) at k ps fit some r least none = let a : 1 ≤ length (get_or ps 0 no_part) - k = first_least 1 k ps some least in (some, omega arith)
+parts_found unroll_full at k ps fit some r least none = let a : 1 ≤ length (get_or ps 0 no_part) - k = first_least 1 k ps some least in (some, omega arith)
+parts_found (unroll_partial s) at k ps fit some r least none = let a : 1 ≤ length (get_or ps 0 no_part) - k = first_least 1 k ps some least in (some, omega arith)
 
-item_may : (c : Transformation) (at k : ℕ) (w : PlacedItems) → IsNoFuse (forget_plan (plan c at w)) → MayStand c k
-item_may (tile ss) at k w n = tt
-item_may (interchange qs) at k w n = tt
-item_may reverse_ at k w n = tt
-item_may (split cs) at k w n = tt
-item_may (fuse r) at k w n = absurd n
-item_may unroll_full at k w n = tt
-item_may (unroll_partial s) at k w n = tt
+item_may : (c : Transformation) (at k : ℕ) (w : PlacedItems) (X : Part) → IsNoFuse (forget_plan (plan c at w)) → MayStand c k (X ∷ [])
+item_may (tile ss) at k w X n = omega arith
+item_may (interchange qs) at k w X n = omega arith
+item_may reverse_ at k w X n = omega arith
+item_may (split cs) at k w X n = omega arith
+item_may (fuse r) at k w X n = absurd n
+item_may unroll_full at k w X n = omega arith
+item_may (unroll_partial s) at k w X n = omega arith
 
-abbrev MayStandAt : PlacedPlan → ℕ → Type 0
-MayStandAt (plan c at w) k = MayStand c k
+abbrev pub MayStandAt : PlacedPlan → ℕ → List Part → Type 0
+MayStandAt (plan c at w) k ps = MayStand c k ps
 
-items_may : (d : PlacedPlan) (k : ℕ) → IsNoFuse (forget_plan d) → MayStandAt d k
-items_may (plan c at w) k n = item_may c at k w n
+items_may : (d : PlacedPlan) (k : ℕ) (X : Part) → IsNoFuse (forget_plan d) → MayStandAt d k (X ∷ [])
+items_may (plan c at w) k X n = item_may c at k w X n
+
+-- round all loops
+pub may_at_top : (p : PlacedPlan) (ps : List Part) → 0 < length ps → MayStandAt p 0 ps
+may_at_top (plan c at w) ps some = top c
+  where
+    top : (c : Transformation) → MayStand c 0 ps
+    top (tile ss) = some
+    top (interchange qs) = some
+    top reverse_ = some
+    top (split cs) = some
+    top (fuse r) = refl
+    top unroll_full = some
+    top (unroll_partial s) = some
 
 -- a directive that finds enough loops
 pub enough_loops : (c : Transformation) (ds : List ℕ) (o : Option (List ℕ)) (es : List ℕ) → (if all_at_least (takes c) ds then o else None) ≡ Some es → (all_at_least (takes c) ds ≡ true) × (o ≡ Some es)
@@ -324,11 +337,11 @@ enough_loops c ds o es e = by (all_at_least (takes c) ds) refl e
     by false d e = absurd (cc)
 
 mutual
-  plan_found : (p : PlacedPlan) (k : ℕ) (ps : List Part) (es : List ℕ) → ArgumentsFit (forget_plan p) → 0 < length ps → MayStandAt p k → AllReach k ps → depths (forget_plan p) (lengths_below k ps) ≡ Some es
+  plan_found : (p : PlacedPlan) (k : ℕ) (ps : List Part) (es : List ℕ) → ArgumentsFit (forget_plan p) → MayStandAt p k ps → AllReach k ps → depths (forget_plan p) (lengths_below k ps) ≡ Some es
       → HasNone (counts.plan_breaches p k ps) → Finds (forget_plan p) k ps × Reaches k es (plan_kinds (forget_plan p) k ps)
-  plan_found (plan c at w) k ps es fit some may r e none =
+  plan_found (plan c at w) k ps es fit may r e none =
       let q = enough_loops c (lengths_below k ps) (applied_depths c (forget_items w) (transformed_depths c (lengths_below k ps))) es e in
-      let f : FindsParts c k ps = parts_found c at k ps fit.0 some may r q.0 none.0 in
+      let f : FindsParts c k ps = parts_found c at k ps fit.0 may r q.0 none.0 in
       let i = items_found c w k (transformed_kinds c k ps) (transformed_depths c (lengths_below k ps)) es fit.1 (transformed_reaches c k ps f r) q.1 none.1 in
       ((f, i.0), i.1)
 
@@ -340,22 +353,15 @@ mutual
       let m : ℕ = loops_round c k p in
       let t = some_then (position_depths c p (depths (forget_plan d)) ds) (applied_depths c (forget_items w)) es e in
       let q = position_found c p k (depths (forget_plan d)) (plan_kinds (forget_plan d)) ps t.0 r.1 (subst (λ z. position_depths c p (depths (forget_plan d)) z ≡ Some t.0) r.0 t.1.0) in
-      let inner = plan_found d m (X ∷ []) q.1.1.0 fit.1 (omega arith) (items_may d m fit.0) (q.1.0, tt) q.1.1.1.0
+      let inner = plan_found d m (X ∷ []) q.1.1.0 fit.1 (items_may d m X fit.0) (q.1.0, tt) q.1.1.1.0
       (of_first d m (part_of_position c p ps) X fit.0 (first_of_position c p ps) none.0) in
       let rest = items_found c w k (kinds.on_position c p k (plan_kinds (forget_plan d)) ps) t.0 es fit.2 (q.1.1.1.1 inner.1) t.1.1 none.1 in
       ((q.0, inner.0, rest.0), rest.1)
 
+-- and the parts that it gives are as deep as its depths say
+pub rules_give_parts : (p : PlacedPlan) (ps : List Part) (es : List ℕ) → ArgumentsFit (forget_plan p) → MayStandAt p 0 ps → depths (forget_plan p) (lengths_below 0 ps) ≡ Some es
+    → HasNone (counts.plan_breaches p 0 ps) → Finds (forget_plan p) 0 ps × (es ≡ lengths_below 0 (plan_kinds (forget_plan p) 0 ps))
+rules_give_parts p ps es fit may e none = let r = plan_found p 0 ps es fit may (all_zero ps) e none in (r.0, r.1.0)
+
 pub rules_find_loops : RulesFindLoops
-rules_find_loops p ps es fit some e none = (plan_found p 0 ps es fit some (at_top p) (all_zero ps) e none).0
-  where
-    at_top : (p : PlacedPlan) → MayStandAt p 0
-    at_top (plan c at w) = top c
-      where
-        top : (c : Transformation) → MayStand c 0
-        top (tile ss) = tt
-        top (interchange qs) = tt
-        top reverse_ = tt
-        top (split cs) = tt
-        top (fuse r) = refl
-        top unroll_full = tt
-        top (unroll_partial s) = tt
+rules_find_loops p ps es fit some e none = (rules_give_parts p ps es fit (may_at_top p ps some) e none).0

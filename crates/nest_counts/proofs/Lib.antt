@@ -1,4 +1,3 @@
-pub mod Tests
 pub mod Ways
 pub mod Built
 pub mod Sizes
@@ -27,3 +26,10 @@ pub mod Structured
 pub mod Asked
 pub mod LoopDepths
 pub mod Corollaries
+pub mod SomeParts
+pub mod FusedDepths
+pub mod Taken
+pub mod BodyFinds
+pub mod DirectivesFind
+pub mod StatementsFind
+pub mod Admitted

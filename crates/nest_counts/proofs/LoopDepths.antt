@@ -8,7 +8,7 @@ use Rattle.c_semantics.specs.Meaning.Expressions.{Define}
 use Rattle.c_semantics.specs.Loops.Transformations.{Applied, none_applied, fuse, plan}
 use Rattle.c_semantics.specs.Loops.Directives.{plan_of, clauses_items, range_in, sizes_in}
 use Rattle.c_semantics.specs.Loops.Need.{depths, if_some, serves, loops_asked}
-use Rattle.c_semantics.specs.Loops.StatementDepths.{joined, stmt_depths, single_depths, member_depths, body_depth}
+use Rattle.c_semantics.specs.Loops.StatementDepths.{kind_of, joined, found_by, stmt_depths, single_depths, member_depths, body_depth}
 use Rattle.canonical_nests.specs.LoopRules.BreachSets.{HasNone, breach}
 use Rattle.canonical_nests.specs.LoopRules.PlacedPlans as placed
 use Rattle.canonical_nests.specs.LoopRules.PlacedPlans.{PlacedPlan, PlacedItems, placed_plan, forget_plan}
@@ -16,7 +16,8 @@ use Rattle.canonical_nests.specs.LoopRules.Structure.{is_loop, stmt_list, unwrap
 use Rattle.canonical_nests.specs.declared.rules.LoopRule.TheVariants.{L1}
 use Rattle.canonical_nests.proofs.ForgottenPlans.{plan_is}
 use Rattle.nest_counts.specs.Laws.{LoopsGiveDepths}
-use Rattle.nest_counts.proofs.Structured.{neither, plan_some, sequence_some}
+use Rattle.canonical_nests.proofs.BreachSets.{neither_breaks}
+use Rattle.nest_counts.proofs.Structured.{plan_some, sequence_some}
 
 -- ---- one loop
 
@@ -53,21 +54,23 @@ module _ (ds : List Define) where
   single_is (more_stmts c no_stmts) a e = let is : c ≡ a = cc in ap (λ x. stmt_depths ds (forget_stmt x)) is
   single_is (more_stmts c (more_stmts d ss)) a e = absurd (two_are_not_one c d a (stmt_list ss) (sym (both_stand c d ss) ∙ e))
 
+  -- so it does where blocks stand round it
+  pub one_body : (q : PlacedPlan) (at : ℕ) (ss : Stmts) → HasNone (one_loop_breaches ds q at (unwrapped ss)) → (k : ℕ) × ((single_depths ds (forget_stmts ss) ≡ Some (k ∷ [])) × HasNone (plan_breaches q k))
+  one_body q at ss h = let r = one_loop q at (unwrapped ss) h in (r.1.1.0, (single_is ss r.0 r.1.0 ∙ r.1.1.1.0, r.1.1.1.1))
+
   one_some : (d : Directive) (at : ℕ) (ss : Stmts) → HasNone (one_loop_breaches ds (placed_plan ds d) at (unwrapped ss))
       → (es : List ℕ) × (if_some (single_depths ds (forget_stmts ss)) (depths (plan_of ds (forget_directive d))) ≡ Some es)
   one_some d at ss h =
-      let r = one_loop (placed_plan ds d) at (unwrapped ss) h in
-      let k : ℕ = r.1.1.0 in
-      let s = plan_some (placed_plan ds d) k r.1.1.1.1 in
-      let found : single_depths ds (forget_stmts ss) ≡ Some (k ∷ []) = single_is ss r.0 r.1.0 ∙ r.1.1.1.0 in
-      (s.0, ap (λ o. if_some o (depths (plan_of ds (forget_directive d)))) found ∙ subst (λ q. depths q (k ∷ []) ≡ Some s.0) (plan_is ds d) s.1)
+      let r = one_body (placed_plan ds d) at ss h in
+      let s = plan_some (placed_plan ds d) r.0 r.1.1 in
+      (s.0, ap (λ o. if_some o (depths (plan_of ds (forget_directive d)))) r.1.0 ∙ subst (λ q. depths q (r.0 ∷ []) ≡ Some s.0) (plan_is ds d) s.1)
 
   -- ---- the members of a sequence
 
   abbrev GivesSome : Stmt → Type 0
   GivesSome a = is_loop a ≡ true → (es : List ℕ) × (stmt_depths ds (forget_stmt a) ≡ Some es)
 
-  abbrev EachGives : List Stmt → Type 0
+  abbrev pub EachGives : List Stmt → Type 0
   EachGives [] = Unit {0}
   EachGives (a ∷ ss) = GivesSome a × EachGives ss
 
@@ -90,42 +93,59 @@ module _ (ds : List Define) where
   loops_tested : (q : PlacedPlan) (at : ℕ) (cs : Clauses) (ss : List Stmt) → HasNone (loops_breaches ds q at cs ss)
       → HasNone (member_breaches ss) × HasNone (sequence_breaches q (range_place at cs) (parts_of_all ds ss))
   loops_tested q at cs [] h = absurd h
-  loops_tested q at cs (a ∷ ss) h = neither (member_breaches (a ∷ ss)) (sequence_breaches q (range_place at cs) (parts_of_all ds (a ∷ ss))) h
+  loops_tested q at cs (a ∷ ss) h = neither_breaks (member_breaches (a ∷ ss)) (sequence_breaches q (range_place at cs) (parts_of_all ds (a ∷ ss))) h
 
-  fuse_asks_one : (r : Option (ℕ × ℕ)) (w : Applied) (m : ℕ) → loops_asked (plan (fuse r) w) m ≡ 1
+  pub fuse_asks_one : (r : Option (ℕ × ℕ)) (w : Applied) (m : ℕ) → loops_asked (plan (fuse r) w) m ≡ 1
   fuse_asks_one r w m = by (serves (plan (fuse r) w) m 1) 1
     where
       by : (t : Bool) (n : ℕ) → unwrap_or (if t then Some n else None) n ≡ n
       by true n = refl
       by false n = refl
 
+  pub sequence_body : (r : Option (ℕ × ℕ)) (at : ℕ) (w : PlacedItems) (cs : Clauses) (ss : Stmts) → EachGives (unwrapped ss) → HasNone (loops_breaches ds (placed.plan (fuse r) at w) at cs (unwrapped ss))
+      → (ks : List ℕ) × ((member_depths ds (forget_stmts ss) ≡ Some ks) × HasNone (sequence_breaches (placed.plan (fuse r) at w) (range_place at cs) ks))
+  sequence_body r at w cs ss gives h =
+      let t = loops_tested (placed.plan (fuse r) at w) at cs (unwrapped ss) h in
+      (parts_of_all ds (unwrapped ss), (members_are ss t.0 gives, t.1))
+
   all_some : (d : Directive) (r : Option (ℕ × ℕ)) (at : ℕ) (w : PlacedItems) (cs : Clauses) (ss : Stmts) → placed_plan ds d ≡ placed.plan (fuse r) at w
       → EachGives (unwrapped ss) → HasNone (loops_breaches ds (placed.plan (fuse r) at w) at cs (unwrapped ss))
       → (es : List ℕ) × (if_some (member_depths ds (forget_stmts ss)) (depths (plan_of ds (forget_directive d))) ≡ Some es)
   all_some d r at w cs ss is gives h =
-      let t = loops_tested (placed.plan (fuse r) at w) at cs (unwrapped ss) h in
-      let s = sequence_some r at (range_place at cs) w (parts_of_all ds (unwrapped ss)) t.1 in
+      let t = sequence_body r at w cs ss gives h in
+      let s = sequence_some r at (range_place at cs) w t.0 t.1.1 in
       let plans : forget_plan (placed.plan (fuse r) at w) ≡ plan_of ds (forget_directive d) = ap forget_plan (sym is) ∙ plan_is ds d in
-      (s.0, ap (λ o. if_some o (depths (plan_of ds (forget_directive d)))) (members_are ss t.0 gives) ∙ subst (λ q. depths q (parts_of_all ds (unwrapped ss)) ≡ Some s.0) plans s.1)
+      (s.0, ap (λ o. if_some o (depths (plan_of ds (forget_directive d)))) t.1.0 ∙ subst (λ q. depths q t.0 ≡ Some s.0) plans s.1)
+
+  -- ---- directives
+
+  -- the depths of what a directive makes of its body
+  abbrev pub directive_depths : Directive → Stmts → Option (List ℕ)
+  directive_depths d a =
+      if_some (found_by (kind_of (forget_directive d)) (single_depths ds (forget_stmts a)) (member_depths ds (forget_stmts a))) (depths (plan_of ds (forget_directive d)))
+
+  directive_some : (m : ℕ) (d : Directive) (a : Stmts) → (loops_asked (plan_of ds (forget_directive d)) m ≡ 1 → EachGives (unwrapped a)) → HasNone (body_breaches ds d a)
+      → (es : List ℕ) × (directive_depths d a ≡ Some es)
+  directive_some m (directive Fuse cs at) a gives h =
+      let one : loops_asked (plan_of ds (forget_directive (directive Fuse cs at))) m ≡ 1 = fuse_asks_one (range_in ds (forget_clauses cs)) (clauses_items ds (length (sizes_in (forget_clauses cs))) (forget_clauses cs) none_applied) m in
+      all_some (directive Fuse cs at) (range_in ds (forget_clauses cs)) at.start (placed.clauses_items ds (length (sizes_in (forget_clauses cs))) cs placed.none_applied) cs a refl (gives one) h
+  directive_some m (directive Tile cs at) a gives h = one_some (directive Tile cs at) at.start a h
+  directive_some m (directive Unroll cs at) a gives h = one_some (directive Unroll cs at) at.start a h
+  directive_some m (directive Interchange cs at) a gives h = one_some (directive Interchange cs at) at.start a h
+  directive_some m (directive Reverse cs at) a gives h = one_some (directive Reverse cs at) at.start a h
+  directive_some m (directive Split cs at) a gives h = one_some (directive Split cs at) at.start a h
 
   -- ---- statements
 
   mutual
     pub gives_some : (m : ℕ) (a : Stmt) → HasNone (stmt_breaches ds (suc m) a) → GivesSome a
     gives_some m (for_ h a s) none = λ e. (suc (body_depth (single_depths ds (forget_stmts a))) ∷ [], refl)
-    gives_some m (omp (directive Fuse cs at) a s) none = λ e.
-        let d : Directive = directive Fuse cs at in
-        let q = neither (stmts_breaches ds (loops_asked (plan_of ds (forget_directive d)) (suc m)) a) (body_breaches ds d a) none in
-        let one : loops_asked (plan_of ds (forget_directive d)) (suc m) ≡ 1 = fuse_asks_one (range_in ds (forget_clauses cs)) (clauses_items ds (length (sizes_in (forget_clauses cs))) (forget_clauses cs) none_applied) (suc m) in
-        all_some d (range_in ds (forget_clauses cs)) at.start (placed.clauses_items ds (length (sizes_in (forget_clauses cs))) cs placed.none_applied) cs a refl (unwrapped_give 0 a (subst (λ n. HasNone (stmts_breaches ds n a)) one q.0)) q.1
-    gives_some m (omp (directive Tile cs at) a s) none = λ e. let d : Directive = directive Tile cs at in one_some d at.start a (neither (stmts_breaches ds (loops_asked (plan_of ds (forget_directive d)) (suc m)) a) (body_breaches ds d a) none).1
-    gives_some m (omp (directive Unroll cs at) a s) none = λ e. let d : Directive = directive Unroll cs at in one_some d at.start a (neither (stmts_breaches ds (loops_asked (plan_of ds (forget_directive d)) (suc m)) a) (body_breaches ds d a) none).1
-    gives_some m (omp (directive Interchange cs at) a s) none = λ e. let d : Directive = directive Interchange cs at in one_some d at.start a (neither (stmts_breaches ds (loops_asked (plan_of ds (forget_directive d)) (suc m)) a) (body_breaches ds d a) none).1
-    gives_some m (omp (directive Reverse cs at) a s) none = λ e. let d : Directive = directive Reverse cs at in one_some d at.start a (neither (stmts_breaches ds (loops_asked (plan_of ds (forget_directive d)) (suc m)) a) (body_breaches ds d a) none).1
-    gives_some m (omp (directive Split cs at) a s) none = λ e. let d : Directive = directive Split cs at in one_some d at.start a (neither (stmts_breaches ds (loops_asked (plan_of ds (forget_directive d)) (suc m)) a) (body_breaches ds d a) none).1
+    gives_some m (omp d a s) none = λ e.
+        let q = neither_breaks (stmts_breaches ds (loops_asked (plan_of ds (forget_directive d)) (suc m)) a) (body_breaches ds d a) none in
+        directive_some (suc m) d a (λ one. unwrapped_give 0 a (subst (λ n. HasNone (stmts_breaches ds n a)) one q.0)) q.1
     gives_some m a none = λ e. absurd (cc)
 
-    unwrapped_give : (m : ℕ) (a : Stmts) → HasNone (stmts_breaches ds (suc m) a) → EachGives (unwrapped a)
+    pub unwrapped_give : (m : ℕ) (a : Stmts) → HasNone (stmts_breaches ds (suc m) a) → EachGives (unwrapped a)
     unwrapped_give m no_stmts h = tt
     unwrapped_give m (more_stmts (block a s) no_stmts) h = unwrapped_give m a h.0
     unwrapped_give m (more_stmts a ss) h = (gives_some m a h.0, listed_give m ss h.1)
@@ -133,6 +153,11 @@ module _ (ds : List Define) where
     listed_give : (m : ℕ) (a : Stmts) → HasNone (stmts_breaches ds (suc m) a) → EachGives (stmt_list a)
     listed_give m no_stmts h = tt
     listed_give m (more_stmts a ss) h = (gives_some m a h.0, listed_give m ss h.1)
+
+  -- of a directive of which m loops are wanted
+  pub body_gives : (m : ℕ) (d : Directive) (a : Stmts) → HasNone (stmts_breaches ds (loops_asked (plan_of ds (forget_directive d)) m) a) → HasNone (body_breaches ds d a)
+      → (es : List ℕ) × (directive_depths d a ≡ Some es)
+  body_gives m d a none h = directive_some m d a (λ one. unwrapped_give 0 a (subst (λ n. HasNone (stmts_breaches ds n a)) one none)) h
 
 pub loops_give_depths : LoopsGiveDepths
 loops_give_depths ds m a loop none = gives_some ds m a none loop

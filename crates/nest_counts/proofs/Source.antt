@@ -108,7 +108,7 @@ nth_put z [] i l = absurd (omega arith)
 nth_put z (t ∷ ts) zero l = refl
 nth_put z (t ∷ ts) (suc i) l = nth_put z ts i (omega arith)
 
-put_turns : (z : ℤ) (t : Tree) → turns (put z t) ≡ turns t
+pub put_turns : (z : ℤ) (t : Tree) → turns (put z t) ≡ turns t
 put_turns z t = ap length (put_children z t) ∙ length_put z (children t)
 
 put_child : (z : ℤ) (t : Tree) (i : ℕ) → i < turns t → child (put z t) i ≡ put z (child t i)
@@ -119,7 +119,7 @@ put_loop z (body b vs) h = absurd h
 put_loop z (do_all ts) h = absurd h
 put_loop z (loop ts) h = tt
 
-each_put : (P : Tree → Type 0) (z : ℤ) (n : ℕ) (t : Tree) → ((u : Tree) → P u → P (put z u)) → EachBelow P n t → EachBelow P n (put z t)
+pub each_put : (P : Tree → Type 0) (z : ℤ) (n : ℕ) (t : Tree) → ((u : Tree) → P u → P (put z u)) → EachBelow P n t → EachBelow P n (put z t)
 each_put P z zero t kept h = kept t h
 each_put P z (suc n) t kept h = λ i l.
     let l' : i < turns t = subst (λ w. i < w) (put_turns z t) l in

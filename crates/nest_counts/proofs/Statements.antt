@@ -1,7 +1,7 @@
 -- The trees of a statement have the kinds of its parts.
 use Rattle.std.proofs.Common.{◌≡◌, refl, sym, ap, ◌∙◌, subst, ℕ, zero, suc, ◌+◌, ◌<◌, List, [], ◌∷◌, ◌++◌, length, Result, Ok, Err, arith, inl, inr}
 use Rattle.std.proofs.lemmas.List.{append-nil}
-use Rattle.c_tree.specs.Bare.{Stmt, for_, block, omp, Stmts, no_stmts, more_stmts, Head, head}
+use Rattle.c_tree.specs.Bare.{Directive, Stmt, for_, block, omp, Stmts, no_stmts, more_stmts, Head, head}
 use Rattle.c_tree.specs.declared.arithmetic.Trap.{Trap}
 use Rattle.c_tree.specs.Arithmetic.{and_then}
 use Rattle.c_tree.specs.declared.tree.Kind.{Kind}
@@ -22,7 +22,7 @@ use Rattle.canonical_nests.specs.Shapes as shapes
 use Rattle.canonical_nests.specs.Shapes.{source_kind, below_source, stmt_kinds, single_kinds, member_kinds, body_kinds}
 use Rattle.nest_counts.specs.HasKinds.{HasKinds}
 use Rattle.nest_counts.specs.Plans.{Beside, Finds, PartsHave}
-use Rattle.nest_counts.specs.Statements.{SaysAlike, FoundBy, IsLoopStmt, StmtFinds, SingleFinds, MembersFind}
+use Rattle.nest_counts.specs.Statements.{SaysAlike, FoundBy, IsLoopStmt, StmtFinds, SingleFinds, MembersFind, ConstructFinds}
 use Rattle.nest_counts.specs.Laws.{ConstructsHaveKinds}
 use Rattle.nest_counts.proofs.Transformed.{beside, beside_at, beside_length, beside_append}
 use Rattle.nest_counts.proofs.Items.{plan_has}
@@ -57,7 +57,7 @@ body_gives : (m b : ℕ) (r : Result (List Tree) Trap) (ps : List Part) (ts : Li
 body_gives zero b r ps ts none below e = inl (none refl)
 body_gives (suc m) b r ps ts none below e = below ts e
 
-none_wanted : (ds : List Define) (scope : State) (a : Stmts) → single_kinds ds scope 0 a ≡ []
+pub none_wanted : (ds : List Define) (scope : State) (a : Stmts) → single_kinds ds scope 0 a ≡ []
 none_wanted ds scope no_stmts = refl
 none_wanted ds scope (more_stmts a no_stmts) = refl
 none_wanted ds scope (more_stmts a (more_stmts b as')) = refl
@@ -152,8 +152,17 @@ module _ (ds : List Define) (s : State) where
         more_beside (nest apply_plan ds s b m x) (nest_all apply_plan ds s (b + bodies ds m x) m as') (stmt_kinds ds scope m x) (member_kinds ds scope m as') ts
         (λ us f. (stmt_gives scope b m x us finds.1 f).1 finds.0) (λ us f. member_gives scope (b + bodies ds m x) m as' us finds.2 f) e
 
+-- the trees in the body of a construct
+pub bodies_have_kinds : (ds : List Define) (scope s : State) (d : Directive) (a : Stmts) (ts : List Tree) → ConstructFinds ds s scope d a → nest_all apply_plan ds s 0 (loops_asked (plan_of ds d) 0) a ≡ Ok ts
+    → Beside HasKinds (body_kinds ds scope (loops_asked (plan_of ds d) 0) d a) ts
+bodies_have_kinds ds scope s d a ts finds e =
+    let n : ℕ = loops_asked (plan_of ds d) 0 in
+    found_beside (kind_of d) (single_kinds ds scope n a) (member_kinds ds scope n a) (SingleFinds ds s scope n a × (0 < length (single_kinds ds scope n a))) (MembersFind ds s scope n a) ts
+    (λ h. some_beside (single_kinds ds scope n a) ts (single_gives ds s scope 0 n a ts h.0 e) h.1) (λ h. member_gives ds s scope 0 n a ts h e) finds.0
+
 pub constructs_have_kinds : ConstructsHaveKinds
 constructs_have_kinds ds scope s d a ts finds e =
-    omp_gives (nest_all apply_plan ds s 0 (loops_asked (plan_of ds d) 0) a) (plan_of ds d) (kind_of d) (single_kinds ds scope (loops_asked (plan_of ds d) 0) a) (member_kinds ds scope (loops_asked (plan_of ds d) 0) a)
-    (SingleFinds ds s scope (loops_asked (plan_of ds d) 0) a) (MembersFind ds s scope (loops_asked (plan_of ds d) 0) a) ts
-    (λ us f h. single_gives ds s scope 0 (loops_asked (plan_of ds d) 0) a us h f) (λ us f h. member_gives ds s scope 0 (loops_asked (plan_of ds d) 0) a us h f) finds e
+    let q = then_ok (nest_all apply_plan ds s 0 (loops_asked (plan_of ds d) 0) a) (λ us. Ok (apply_plan (plan_of ds d) us)) ts e in
+    let is : apply_plan (plan_of ds d) q.0 ≡ ts = let f : Ok (apply_plan (plan_of ds d) q.0) ≡ Ok ts = q.1.1 in cc in
+    let ps : List Part = body_kinds ds scope (loops_asked (plan_of ds d) 0) d a in
+    subst (Beside HasKinds (plan_kinds (plan_of ds d) 0 ps)) is (plan_beside (plan_of ds d) ps q.0 (bodies_have_kinds ds scope s d a q.0 finds q.1.0) finds.1)

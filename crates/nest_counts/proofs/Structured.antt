@@ -1,38 +1,18 @@
 -- A directive and its items find enough loops where they break no rule of structure.
-use Rattle.std.proofs.Common.{◌≡◌, refl, ap, ◌∙◌, subst, ℕ, zero, suc, ◌+◌, ◌-◌, ◌<◌, ◌≤◌, List, [], ◌∷◌, ◌++◌, length, Option, Some, None, Bool, true, false, get_or, arith}
+use Rattle.std.proofs.Common.{◌≡◌, refl, ap, ◌∙◌, subst, ℕ, zero, suc, ◌-◌, ◌<◌, ◌≤◌, List, [], ◌∷◌, ◌++◌, length, Option, Some, None, true, false, get_or, arith}
 use Rattle.std.specs.Prelude.{◌==◌, not, nat_le, nat_lt, unwrap_or, if◌then◌else◌}
 use Rattle.std.specs.List.{list_any}
-use Rattle.std.proofs.lemmas.Bool.{ltb-false, le-leb, or_parts, or_from, and_from, eq-eqb}
+use Rattle.std.proofs.lemmas.Bool.{ltb-false, le-leb, or_parts, and_from, eq-eqb}
 use Rattle.c_semantics.specs.Loops.Transformations.{Transformation, tile, interchange, reverse_, split, fuse, unroll_full, unroll_partial}
 use Rattle.c_semantics.specs.Loops.Transformations as bare
 use Rattle.c_semantics.specs.Loops.Need.{takes, transformed_depths, all_at_least, if_some, nested_depths, part_depths, below_depths, position_depths, depths, applied_depths}
 use Rattle.canonical_nests.specs.declared.rules.LoopRule.TheVariants.{L7, L19, L22}
-use Rattle.canonical_nests.specs.LoopRules.BreachSets.{BreachSet, none, one, ◌&◌, HasNone, has_some, or_else, breach_if}
+use Rattle.canonical_nests.specs.LoopRules.BreachSets.{◌&◌, HasNone, breach_if}
 use Rattle.canonical_nests.specs.LoopRules.PlacedPlans.{PlacedPlan, plan, PlacedItems, none_applied, applied_at, forget_plan, forget_items}
 use Rattle.canonical_nests.specs.LoopRules.Structure as structure
 use Rattle.canonical_nests.specs.LoopRules.Structure.{depth_breaches, depth_at, after_item, ends_within, sequence_breaches}
 use Rattle.nest_counts.specs.Laws.{StructureFindsLoops}
-use Rattle.nest_counts.proofs.Tests.{none_if}
-
--- ---- sets of breaches
-
-no_some : (xs : BreachSet) → HasNone xs → has_some xs ≡ false
-no_some none h = refl
-no_some (one b) h = absurd h
-no_some (xs & ys) h = or_from (has_some xs) (has_some ys) (no_some xs h.0) (no_some ys h.1)
-
-none_from : (xs : BreachSet) → has_some xs ≡ false → HasNone xs
-none_from none e = tt
-none_from (one b) e = absurd (cc)
-none_from (xs & ys) e = let q = or_parts (has_some xs) (has_some ys) e in (none_from xs q.0, none_from ys q.1)
-
--- the second set counts where the first has no breach
-pub neither : (xs ys : BreachSet) → HasNone (or_else xs ys) → HasNone xs × HasNone ys
-neither xs ys h = by (has_some xs) refl h
-  where
-    by : (b : Bool) → has_some xs ≡ b → HasNone (if b then xs else ys) → HasNone xs × HasNone ys
-    by true e h = absurd (let z : has_some xs ≡ false = no_some xs h in cc)
-    by false e h = (none_from xs e, h)
+use Rattle.canonical_nests.proofs.BreachSets.{neither_breaks, none_if, none_unless}
 
 -- ---- depths
 
@@ -65,12 +45,12 @@ position_some (unroll_partial s) p f ks bs l e = at_some 0 (p - 1) f ks bs l e
 -- ---- directives and items
 
 pub some_deep : (p : PlacedPlan) (k : ℕ) → HasNone (structure.plan_breaches p k) → 0 < k
-some_deep (plan c at w) k h = (depth_found c at k (neither (depth_breaches c at k) (structure.items_breaches c w (transformed_depths c (k ∷ []))) h).0).0
+some_deep (plan c at w) k h = (depth_found c at k (neither_breaks (depth_breaches c at k) (structure.items_breaches c w (transformed_depths c (k ∷ []))) h).0).0
 
 mutual
   pub plan_some : (p : PlacedPlan) (k : ℕ) → HasNone (structure.plan_breaches p k) → (es : List ℕ) × (depths (forget_plan p) (k ∷ []) ≡ Some es)
   plan_some (plan c at w) k h =
-      let q = neither (depth_breaches c at k) (structure.items_breaches c w (transformed_depths c (k ∷ []))) h in
+      let q = neither_breaks (depth_breaches c at k) (structure.items_breaches c w (transformed_depths c (k ∷ []))) h in
       let r = items_some c w (transformed_depths c (k ∷ [])) q.1 in (
         r.0,
         ap (λ x. if x then applied_depths c (forget_items w) (transformed_depths c (k ∷ [])) else None)
@@ -81,7 +61,7 @@ mutual
   pub items_some : (c : Transformation) (w : PlacedItems) (ks : List ℕ) → HasNone (structure.items_breaches c w ks) → (es : List ℕ) × (applied_depths c (forget_items w) ks ≡ Some es)
   items_some c none_applied ks h = (ks, refl)
   items_some c (applied_at p d w) ks h =
-      let q = neither (structure.plan_breaches d (depth_at c p ks)) (structure.items_breaches c w (after_item c p d ks)) h in
+      let q = neither_breaks (structure.plan_breaches d (depth_at c p ks)) (structure.items_breaches c w (after_item c p d ks)) h in
       let a = plan_some d (depth_at c p ks) q.0 in
       let s = position_some c p (depths (forget_plan d)) ks a.0 (some_deep d (depth_at c p ks) q.0) a.1 in
       let same : after_item c p d ks ≡ s.0 = ap (λ o. unwrap_or o []) s.1 in
@@ -98,9 +78,14 @@ none_empty (suc k ∷ ks) e = and_from (nat_le 1 (suc k)) (all_at_least 1 ks) (l
 pub sequence_some : (r : Option (ℕ × ℕ)) (at range : ℕ) (w : PlacedItems) (ks : List ℕ) → HasNone (sequence_breaches (plan (fuse r) at w) range ks)
     → (es : List ℕ) × (depths (bare.plan (fuse r) (forget_items w)) ks ≡ Some es)
 sequence_some r at range w ks h =
-    let q = neither (breach_if (list_any (λ k. k == 0) ks) L22 at & breach_if (not (ends_within (fuse r) (length ks))) L19 range) (structure.items_breaches (fuse r) w (transformed_depths (fuse r) ks)) h in
+    let q = neither_breaks (breach_if (list_any (λ k. k == 0) ks) L22 at & breach_if (not (ends_within (fuse r) (length ks))) L19 range) (structure.items_breaches (fuse r) w (transformed_depths (fuse r) ks)) h in
     let s = items_some (fuse r) w (transformed_depths (fuse r) ks) q.1 in
     (s.0, ap (λ x. if x then applied_depths (fuse r) (forget_items w) (transformed_depths (fuse r) ks) else None) (none_empty ks (none_if (list_any (λ k. k == 0) ks) L22 at q.0.0)) ∙ s.1)
+
+pub sequence_ends : (r : Option (ℕ × ℕ)) (at range : ℕ) (w : PlacedItems) (ks : List ℕ) → HasNone (sequence_breaches (plan (fuse r) at w) range ks) → ends_within (fuse r) (length ks) ≡ true
+sequence_ends r at range w ks h =
+    let q = neither_breaks (breach_if (list_any (λ k. k == 0) ks) L22 at & breach_if (not (ends_within (fuse r) (length ks))) L19 range) (structure.items_breaches (fuse r) w (transformed_depths (fuse r) ks)) h in
+    none_unless (ends_within (fuse r) (length ks)) L19 range q.0.1
 
 pub structure_finds_loops : StructureFindsLoops
 structure_finds_loops p k h = plan_some p k h

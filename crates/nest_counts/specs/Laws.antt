@@ -1,22 +1,23 @@
 -- What the kinds of counts of a part say of the trees that have them.
-use Rattle.std.specs.Prelude.{ℕ, suc, ◌≡◌, ◌+◌, ◌<◌, ◌≤◌, List, [], ◌∷◌, length, Ok, Some, true, false, get_or}
+use Rattle.std.specs.Prelude.{ℕ, suc, ◌≡◌, ◌+◌, ◌<◌, ◌≤◌, List, [], ◌∷◌, length, Ok, Some, true, false, ◌⊎◌, get_or}
 use Rattle.c_tree.specs.Bare.{Directive, Stmts}
 use Rattle.c_tree.specs.Placed as placed
-use Rattle.c_tree.specs.Forget.{forget_stmt, forget_directive}
+use Rattle.c_tree.specs.Forget.{forget_stmt, forget_stmts, forget_directive}
+use Rattle.c_tree.specs.WellFormed.{WellFormedStmt}
 use Rattle.c_semantics.specs.Meaning.State.{State}
 use Rattle.c_semantics.specs.Meaning.Expressions.{Define}
 use Rattle.c_semantics.specs.Meaning.FileVariables.{FunctionAccess}
 use Rattle.c_semantics.specs.Loops.Directives.{plan_of}
-use Rattle.c_semantics.specs.Loops.Need.{depths, all_at_least, loops_asked}
+use Rattle.c_semantics.specs.Loops.Need.{takes, depths, all_at_least, loops_asked}
 use Rattle.c_semantics.specs.Loops.StatementDepths.{stmt_depths}
 use Rattle.c_semantics.specs.Loops.Forest.{forest}
-use Rattle.c_semantics.specs.Loops.IterationTrees.{Tree, widths, pick, build}
-use Rattle.c_semantics.specs.Loops.Transformations.{Plan, apply_plan}
+use Rattle.c_semantics.specs.Loops.IterationTrees.{Tree, nth, widths, pick, build}
+use Rattle.c_semantics.specs.Loops.Transformations.{Transformation, Plan, plan, Applied, apply_plan}
 use Rattle.canonical_nests.specs.declared.nest.CountKind.TheVariants.{Known}
-use Rattle.canonical_nests.specs.Kinds.{Part, kind_at, plan_kinds}
+use Rattle.canonical_nests.specs.Kinds.{Part, no_part, kind_at, plan_kinds}
 use Rattle.canonical_nests.specs.LoopRules.Counts.{depend_on_another}
 use Rattle.nest_counts.specs.HasKinds.{HasKinds, IsLoop, turns, EachBelow}
-use Rattle.canonical_nests.specs.Shapes.{body_kinds}
+use Rattle.canonical_nests.specs.Shapes.{stmt_kinds, body_kinds}
 use Rattle.canonical_nests.specs.LoopRules.BreachSets.{HasNone}
 use Rattle.canonical_nests.specs.LoopRules.PlacedPlans.{PlacedPlan, forget_plan}
 use Rattle.canonical_nests.specs.LoopRules.Clauses as clauses
@@ -26,8 +27,9 @@ use Rattle.canonical_nests.specs.LoopRules.Heads as heads
 use Rattle.canonical_nests.specs.LoopRules.Structure as structure
 use Rattle.nest_counts.specs.Plans.{IsOrder, Finds, PartsHave, Beside}
 use Rattle.nest_counts.specs.Statements.{ConstructFinds}
-use Rattle.nest_counts.specs.Found.{ArgumentsFit, IsNoFuse, EachAtMost, lengths_below}
+use Rattle.nest_counts.specs.Found.{ArgumentsFit, IsNoFuse, EachAtMost, HaveLoops, lengths_below}
 use Rattle.nest_counts.specs.Bounds.{ConstructBounds}
+use Rattle.nest_counts.specs.Admitted.{rule_breaches, EachAdmitted, trees_in, parts_in, trees_run, parts_run, TakesRectangle}
 
 -- where the count of a loop is known, every tree at its depth is a loop of that many turns
 abbrev pub KnownCountsHold : Type 0
@@ -105,3 +107,40 @@ abbrev pub PermutationsAreOrders : Type 0
 PermutationsAreOrders =
     (ps : List ℕ) → 0 < length ps → all_different ps ≡ true →
     ((j : ℕ) → j < length ps → (0 < get_or ps j 0) × (get_or ps j 0 ≤ length ps)) → IsOrder ps
+
+-- ---- whole constructs
+
+-- a statement of which m loops are wanted, which breaks no rule of clauses, structure and counts and gives parts as deep as
+-- is wanted, has as many parts for a directive round it, each with m loops at least. Of several parts one loop each is
+-- wanted
+abbrev pub StatementsHaveLoops : Type 0
+StatementsHaveLoops =
+    (ds : List Define) (scope : State) (m : ℕ) (a : placed.Stmt) (es : List ℕ) → WellFormedStmt (forget_stmt a) → HasNone (rule_breaches ds scope m a) → 0 < m →
+    stmt_depths ds (forget_stmt a) ≡ Some es → all_at_least m es ≡ true → (m ≤ 1) ⊎ (length es ≡ 1) → HaveLoops m (length es) (stmt_kinds ds scope m (forget_stmt a))
+
+-- in an admitted construct each directive finds what it takes
+abbrev pub AdmittedConstructsFind : Type 0
+AdmittedConstructsFind = EachAdmitted (λ ds scope s d a. ConstructFinds ds s scope (forget_directive d) (forget_stmts a))
+
+-- so the parts that it runs have the kinds that the rules of counts see
+abbrev pub AdmittedConstructsHaveKinds : Type 0
+AdmittedConstructsHaveKinds =
+    EachAdmitted (λ ds scope s d a. (ts : List Tree) → trees_run ds s d a ≡ Ok ts → Beside HasKinds (parts_run ds scope d a) ts)
+
+-- and so have the parts in its body, on which its directive acts
+abbrev pub AdmittedBodiesHaveKinds : Type 0
+AdmittedBodiesHaveKinds =
+    EachAdmitted (λ ds scope s d a. (ts : List Tree) → trees_in ds s d a ≡ Ok ts → Beside HasKinds (parts_in ds scope d a) ts)
+
+-- where the count of a loop of a part that it runs is known, every tree at its depth is a loop of that many turns
+abbrev pub AdmittedCountsHold : Type 0
+AdmittedCountsHold =
+    EachAdmitted (λ ds scope s d a. (ts : List Tree) → trees_run ds s d a ≡ Ok ts → (j n v : ℕ) → j < length (parts_run ds scope d a) →
+    n < length (get_or (parts_run ds scope d a) j no_part) → kind_at (get_or (parts_run ds scope d a) j no_part) n ≡ Known v →
+    EachBelow (λ u. IsLoop u × turns u ≡ v) n (nth j ts))
+
+-- the loops that `tile` or `interchange` takes are a nest that is as wide everywhere
+abbrev pub AdmittedNestsAreRectangular : Type 0
+AdmittedNestsAreRectangular =
+    EachAdmitted (λ ds scope s d a. (ts : List Tree) → trees_in ds s d a ≡ Ok ts → (c : Transformation) (w : Applied) →
+    plan_of ds (forget_directive d) ≡ plan c w → TakesRectangle c → nth 0 ts ≡ build (widths (takes c) (nth 0 ts)) (pick (nth 0 ts)))

@@ -60,3 +60,24 @@ module _ (ds : List Define) (s : State) where
 abbrev pub ConstructFinds : List Define → State → State → Directive → Stmts → Type 0
 ConstructFinds ds s scope d a =
     let n = loops_asked (plan_of ds d) 0 in DirectiveFinds ds scope n d a (SingleFinds ds s scope n a) (MembersFind ds s scope n a)
+
+-- ---- the types alone
+
+-- the heads of the loops of a statement of which m loops are wanted
+module _ (ds : List Define) (s : State) where
+  abbrev mutual
+    pub StmtSaysAlike : State → ℕ → Stmt → Type 0
+    StmtSaysAlike scope zero _ = Unit {0}
+    StmtSaysAlike scope (suc m) (for_ (head i o next) a) =
+        SaysAlike ds scope s (head i o next) × StmtsSayAlike (scope_in i scope) m a
+    StmtSaysAlike scope (suc m) (block a) = StmtsSayAlike scope (suc m) a
+    StmtSaysAlike scope (suc m) (omp d a) = StmtsSayAlike scope (loops_asked (plan_of ds d) (suc m)) a
+    StmtSaysAlike scope (suc m) _ = Unit {0}
+
+    pub StmtsSayAlike : State → ℕ → Stmts → Type 0
+    StmtsSayAlike scope m no_stmts = Unit {0}
+    StmtsSayAlike scope m (more_stmts a as') = StmtSaysAlike scope m a × StmtsSayAlike scope m as'
+
+-- of a construct
+abbrev pub ConstructSaysAlike : List Define → State → State → Directive → Stmts → Type 0
+ConstructSaysAlike ds s scope d a = StmtsSayAlike ds s scope (loops_asked (plan_of ds d) 0) a

@@ -1,6 +1,6 @@
 //! What the kinds of counts say of the trees of a construct.
 
-ghost use Rattle.nest_counts.specs.Laws.{ArgumentsOfRulesFit, AskedLoopsSuffice, BoundsAreInvariant, ConstructsHaveKinds, DeeperBodiesServe, DirectivesFindAsked, DirectivesKeepKinds, KnownCountsHold, LoopsGiveDepths, PermutationsAreOrders, RulesFindLoops, StructureFindsLoops, TakenLoopsAreRectangular};
+ghost use Rattle.nest_counts.specs.Laws.{AdmittedBodiesHaveKinds, AdmittedConstructsFind, AdmittedConstructsHaveKinds, AdmittedCountsHold, AdmittedNestsAreRectangular, ArgumentsOfRulesFit, AskedLoopsSuffice, BoundsAreInvariant, ConstructsHaveKinds, DeeperBodiesServe, DirectivesFindAsked, DirectivesKeepKinds, KnownCountsHold, LoopsGiveDepths, PermutationsAreOrders, RulesFindLoops, StatementsHaveLoops, StructureFindsLoops, TakenLoopsAreRectangular};
 
 /// Where the count of a loop is known, every tree at its depth is a loop of that many turns.
 pub fn known_counts_hold()
@@ -41,8 +41,8 @@ pub fn permutations_are_orders()
     ensures { PermutationsAreOrders }
 {}
 
-/// In a directive that breaks no rule of clauses, sizes are at least 1, a permutation is one, no item is `fuse`, and each
-/// item's arguments fit.
+/// In a directive that breaks no rule of clauses, sizes are at least 1, a permutation is one, `split` has a count, no item
+/// is `fuse`, and each item's arguments fit.
 pub fn arguments_of_rules_fit()
     ensures { ArgumentsOfRulesFit }
 {}
@@ -72,4 +72,36 @@ pub fn directives_find_asked()
 /// A `for` or a directive gives loops where no directive that has to give loops breaks a rule of structure.
 pub fn loops_give_depths()
     ensures { LoopsGiveDepths }
+{}
+
+/// A statement of which loops are wanted, which breaks no rule of clauses, structure and counts and gives parts as deep as is
+/// wanted, has as many parts, each with the loops that are wanted.
+pub fn statements_have_loops()
+    ensures { StatementsHaveLoops }
+{}
+
+/// In a construct that breaks no loop rule, and whose loops are typed in its scope as in the state of the entry, each
+/// directive that has to give loops finds what it takes.
+pub fn admitted_constructs_find()
+    ensures { AdmittedConstructsFind }
+{}
+
+/// So the parts that it runs have the kinds of counts by which the loop rules decide.
+pub fn admitted_constructs_have_kinds()
+    ensures { AdmittedConstructsHaveKinds }
+{}
+
+/// And so have the parts in its body, before its directive acts.
+pub fn admitted_bodies_have_kinds()
+    ensures { AdmittedBodiesHaveKinds }
+{}
+
+/// Where the count of a loop that it runs is known, every tree at its depth is a loop of that many turns.
+pub fn admitted_counts_hold()
+    ensures { AdmittedCountsHold }
+{}
+
+/// The loops that its `tile` or `interchange` takes are a nest that is as wide everywhere.
+pub fn admitted_nests_are_rectangular()
+    ensures { AdmittedNestsAreRectangular }
 {}

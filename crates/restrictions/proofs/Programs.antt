@@ -17,7 +17,7 @@ use Rattle.canonical_nests.specs.LoopRules.BreachSets.{◌&◌, lesser, least}
 use Rattle.canonical_nests.specs.LoopRules.Programs.{top_breaches, breaches_from}
 use Rattle.canonical_nests.proofs.Order.{lesser_joins, lesser_none}
 use Rattle.loop_counts.specs.Visible.{Visible}
-use Rattle.loop_weight.proofs.Items.{top_well_formed}
+use Rattle.loop_counts.proofs.WellFormedItems.{top_well_formed}
 use Rattle.restrictions.specs.Alike.{Alike}
 use Rattle.restrictions.specs.Walks.{visible_with}
 use Rattle.restrictions.proofs.Accesses.{alike_with}

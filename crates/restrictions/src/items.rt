@@ -1,6 +1,6 @@
 //! The loop rules of the constructs in an item of a program.
 
-ghost use Rattle.std.specs.Prelude.{◌≡◌, ◌++◌, [], map, IfOk, OnOk};
+ghost use Rattle.std.specs.Prelude.{◌≡◌, [], map, IfOk, OnOk};
 ghost use Rattle.c_tree.specs.BareOf.{bare_param, bare_stmts, bare_top};
 ghost use Rattle.c_tree.specs.PlacedOf.{placed_stmts, placed_top};
 ghost use Rattle.c_tree.specs.WellFormed.{WellFormedStmts, WellFormedTop};
@@ -16,22 +16,8 @@ use loop_counts::scope::Scope;
 use loop_heads::functions::Functions;
 use std::alloc::{AllocError, Global};
 
-/// Makes the parameters of a function visible, the first one innermost.
-#[tactic(auto, using(crate::proofs::Parameters::params))]
-fn declare_params<'p>(scope: &mut Scope<'p>, params: &'p [Param]) -> Result<(), AllocError>
-    ensures { OnOk result (scope.new ≡ record scope.old { state = with_frame (params_frame (map bare_param params.now) ++ scope.old.state.frame) scope.old.state }) }
-{
-    let mut left = params.len();
-    'each: while left > 0 {
-        left -= 1;
-        let param = &params[left];
-        scope.declare(&param.name, param.ty)?;
-    }
-    Ok(())
-}
-
 /// The least breach in a function's body, where no variable but those of the file is visible round it.
-#[tactic(auto, using(crate::proofs::Parameters::functions))]
+#[tactic(auto, using(loop_counts::proofs::Parameters::functions))]
 fn function_breach<'p>(
     alloc: Global,
     params: &'p [Param],
@@ -44,7 +30,7 @@ fn function_breach<'p>(
     ensures breach { IfOk result (λ b. b ≡ least (programs.stmts_breaches scope.old.defines functions.now (with_frame (params_frame (map bare_param params.now)) scope.old.state) 0 (placed_stmts body.now))) }
     ensures scope { OnOk result (scope.new ≡ scope.old) }
 {
-    declare_params(scope, params)?;
+    scope.declare_params(params)?;
     let found = stmts_breach(alloc, body, functions, 0, scope)?;
     scope.keep(0);
     Ok(found)

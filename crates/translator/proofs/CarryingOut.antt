@@ -1,36 +1,40 @@
--- A program with its directives carried out does what the program does.
-use Rattle.std.proofs.Common.{◌≡◌, ◌≤◌, Bool, true, ◌&&◌, [], ◌∷◌, Some, None, refl, sym, ◌∙◌, subst, inl, inr, arith}
+-- What stands for a program: itself where it has no directive, else the program in which its directives are carried out.
+use Rattle.std.proofs.Common.{◌≡◌, ℕ, List, ℤ, true, [], ◌∷◌, None, refl, sym, ◌∙◌, ap, subst}
 use Rattle.c_tree.specs.Bare.{Stmt, decl, set, step, print, input, if_, if_else, while_, do_, for_, block, break_, continue_, empty, omp, call, Stmts, no_stmts, more_stmts, head, MaybeStmt, no_stmt, a_stmt, define, extern_, global, function, main, Program}
-use Rattle.c_tree.specs.Placed as placed
-use Rattle.c_tree.specs.Checked.{most_height}
+use Rattle.c_tree.specs.BareOf.{bare_program}
+use Rattle.c_tree.specs.PlacedOf.{placed_program}
+use Rattle.c_tree.specs.Checked.{IsChecked}
 use Rattle.c_tree.specs.Forget.{forget_program}
-use Rattle.c_tree.specs.Height.{program_height}
 use Rattle.c_tree.specs.WellFormed.{WellFormed}
-use Rattle.c_soundness.specs.NameBreaches.{BreaksNone}
-use Rattle.c_meaning.specs.Plain.{is_plain_stmt, are_plain_stmts, is_plain_part, is_plain}
+use Rattle.c_tree.specs.declared.tree.Program as code
+use Rattle.c_semantics.specs.Meaning.State.{State, nowhere}
+use Rattle.c_semantics.specs.Meaning.Expressions.{Define}
+use Rattle.c_semantics.specs.Meaning.FileVariables.{defines_with}
+use Rattle.c_semantics.specs.Meaning.Programs.{outcome, turns_of}
+use Rattle.c_semantics.specs.Structure.Skeleton.{skeleton, scope_after}
+use Rattle.c_scopes.specs.Types.{with_params}
+use Rattle.c_scopes.specs.Laws.{scope_with}
+use Rattle.c_meaning.specs.Plain.{is_plain_stmt, are_plain_stmts, is_plain_part, is_plain_head, is_plain}
 use Rattle.canonical_nests.specs.LoopRules.Programs.{first_directive}
+use Rattle.loop_normal.specs.DrawnNames.{FreshNames}
+use Rattle.carried_out.specs.CarriedOut.{in_head, carried, carried_all, carried_items, carried_out}
+use Rattle.carried_out.specs.SourceNames.{beside_program}
+use Rattle.std.proofs.lemmas.Bool.{and_parts, and_from}
 use Rattle.apply_rewrite.specs.NoDirectives.{NoDirective, NoDirectives, NoDirectiveIf, HoldsNoDirective}
-use Rattle.apply_rewrite.specs.CarriedOut.{carried_out}
-use Rattle.loop_normal.specs.DrawnNames.{AreDigits}
-use Rattle.apply_rewrite.specs.SourceNames.{beside_program}
-use Rattle.apply_rewrite.proofs.Programs.{outcomes_agree}
-use Rattle.apply_rewrite.proofs.Items.{good_items}
-use Rattle.apply_rewrite.proofs.SourceNames.{source_spent}
-use Rattle.apply_rewrite.proofs.Skeletons.{same_skeleton}
-use Rattle.apply_rewrite.proofs.WellFormedCode.{stays_well_formed}
-use Rattle.translator.specs.Answers.{IsReversible, IsBuilt, StandsFor, CarriesOut}
-use Rattle.translator.proofs.Plain.{plain_program, plain_holds_none}
+use Rattle.translator.specs.Answers.{IsBuilt, StandsFor, CarriesOut}
+use Rattle.translator.proofs.AllReverse.{built_reverses}
+use Rattle.translator.proofs.Breaches.{breaks_none}
+use Rattle.translator.proofs.Plain.{plain_program}
 
-both : (a b : Bool) → a ≡ true → b ≡ true → (a && b) ≡ true
-both a b x y = rw (x, y) refl
+-- ---- what holds no directive is plain
 
 mutual
   plain_stmt : (a : Stmt) → NoDirective a → is_plain_stmt a ≡ true
   plain_stmt (if_ e a) h = plain_stmts a h
-  plain_stmt (if_else e a b) h = both _ _ (plain_stmts a h.0) (plain_stmts b h.1)
+  plain_stmt (if_else e a b) h = and_from _ _ (plain_stmts a h.0) (plain_stmts b h.1)
   plain_stmt (while_ e a) h = plain_stmts a h
   plain_stmt (do_ a e) h = plain_stmts a h
-  plain_stmt (for_ (head i e next) a) h = both _ _ (both _ _ (plain_part i h.0) (plain_part next h.1)) (plain_stmts a h.2)
+  plain_stmt (for_ (head i e next) a) h = and_from _ _ (and_from _ _ (plain_part i h.0) (plain_part next h.1)) (plain_stmts a h.2)
   plain_stmt (block a) h = plain_stmts a h
   plain_stmt (omp d a) h = absurd h
   plain_stmt (decl t x e) h = refl
@@ -45,7 +49,7 @@ mutual
 
   plain_stmts : (a : Stmts) → NoDirectives a → are_plain_stmts a ≡ true
   plain_stmts no_stmts h = refl
-  plain_stmts (more_stmts a as') h = both _ _ (plain_stmt a h.0) (plain_stmts as' h.1)
+  plain_stmts (more_stmts a as') h = and_from _ _ (plain_stmt a h.0) (plain_stmts as' h.1)
 
   plain_part : (i : MaybeStmt) → NoDirectiveIf i → is_plain_part i ≡ true
   plain_part no_stmt h = refl
@@ -56,51 +60,96 @@ holds_none [] h = refl
 holds_none (define x minus k t ∷ is) h = holds_none is h
 holds_none (extern_ port ∷ is) h = holds_none is h
 holds_none (global t x dims e ∷ is) h = holds_none is h
-holds_none (function x ps a ∷ is) h = both _ _ (plain_stmts a h.0) (holds_none is h.1)
-holds_none (main a ∷ is) h = both _ _ (plain_stmts a h.0) (holds_none is h.1)
+holds_none (function x ps a ∷ is) h = and_from _ _ (plain_stmts a h.0) (holds_none is h.1)
+holds_none (main a ∷ is) h = and_from _ _ (plain_stmts a h.0) (holds_none is h.1)
 
--- a program without a directive carries itself out
-carries_itself : (p : placed.Program) → first_directive p ≡ None → WellFormed (forget_program p) → CarriesOut (forget_program p) (forget_program p)
-carries_itself p none well = record {
-  plain = plain_program p none well.0;
-  outcome = λ n input least. refl;
-  turns = λ n input least. refl;
-  loops = refl;
-}
+-- ---- a plain program stays as it is
 
--- its reverse constructs carried out carry a program out
-reverses : (p : Program) → WellFormed p → IsReversible p → CarriesOut (carried_out p) p
-reverses p well r =
-    let d : AreDigits (beside_program p).digits = (omega arith, tt) in
-    let g = good_items p [] r.reversible well.0 (beside_program p) d (source_spent p d) in
+module _ (ds : List Define) where
+  mutual
+    stmt_stays : (s : State) (a : Stmt) (f : FreshNames) → is_plain_stmt a ≡ true → (carried ds s a f).tree ≡ a
+    stmt_stays s (if_ e a) f h = ap (if_ e) (stmts_stay s a f h)
+    stmt_stays s (if_else e a b) f h =
+        ap (λ c. if_else e c (carried_all ds s b (carried_all ds s a f).left).tree) (stmts_stay s a f (and_parts (are_plain_stmts a) (are_plain_stmts b) h).0)
+        ∙ ap (if_else e a) (stmts_stay s b (carried_all ds s a f).left (and_parts (are_plain_stmts a) (are_plain_stmts b) h).1)
+    stmt_stays s (while_ e a) f h = ap (while_ e) (stmts_stay s a f h)
+    stmt_stays s (do_ a e) f h = ap (λ b. do_ b e) (stmts_stay s a f h)
+    stmt_stays s (for_ i a) f h = ap (for_ i) (stmts_stay (in_head i s) a f (and_parts (is_plain_head i) (are_plain_stmts a) h).1)
+    stmt_stays s (block a) f h = ap block (stmts_stay s a f h)
+    stmt_stays s (omp d a) f h = cc
+    stmt_stays s (decl t x e) f h = refl
+    stmt_stays s (set t op e) f h = refl
+    stmt_stays s (step t up) f h = refl
+    stmt_stays s (print e) f h = refl
+    stmt_stays s (input t) f h = refl
+    stmt_stays s break_ f h = refl
+    stmt_stays s continue_ f h = refl
+    stmt_stays s empty f h = refl
+    stmt_stays s (call x es) f h = refl
+
+    stmts_stay : (s : State) (a : Stmts) (f : FreshNames) → are_plain_stmts a ≡ true → (carried_all ds s a f).tree ≡ a
+    stmts_stay s no_stmts f h = refl
+    stmts_stay s (more_stmts a as') f h =
+        ap (λ b. more_stmts b (carried_all ds (scope_after a s) as' (carried ds s a f).left).tree) (stmt_stays s a f (and_parts (is_plain_stmt a) (are_plain_stmts as') h).0)
+        ∙ ap (more_stmts a) (stmts_stay (scope_after a s) as' (carried ds s a f).left (and_parts (is_plain_stmt a) (are_plain_stmts as') h).1)
+
+items_stay : (ds : List Define) (s : State) (p : Program) (f : FreshNames) → is_plain p ≡ true → (carried_items ds s p f).tree ≡ p
+items_stay ds s [] f h = refl
+items_stay ds s (define x minus k t ∷ is) f h = ap (λ js. define x minus k t ∷ js) (items_stay (defines_with ds (define x minus k t)) (scope_with s (define x minus k t)) is f h)
+items_stay ds s (extern_ port ∷ is) f h = ap (λ js. extern_ port ∷ js) (items_stay (defines_with ds (extern_ port)) (scope_with s (extern_ port)) is f h)
+items_stay ds s (global t x dims e ∷ is) f h = ap (λ js. global t x dims e ∷ js) (items_stay (defines_with ds (global t x dims e)) (scope_with s (global t x dims e)) is f h)
+items_stay ds s (function x ps a ∷ is) f h =
+    let m = carried_all ds (with_params ps s) a f in
+    let i = function x ps a in
+    ap (λ b. function x ps b ∷ (carried_items (defines_with ds i) (scope_with s i) is m.left).tree) (stmts_stay ds (with_params ps s) a f (and_parts (are_plain_stmts a) (is_plain is) h).0)
+    ∙ ap (λ js. i ∷ js) (items_stay (defines_with ds i) (scope_with s i) is m.left (and_parts (are_plain_stmts a) (is_plain is) h).1)
+items_stay ds s (main a ∷ is) f h =
+    let m = carried_all ds s a f in
+    let i = main a in
+    ap (λ b. main b ∷ (carried_items (defines_with ds i) (scope_with s i) is m.left).tree) (stmts_stay ds s a f (and_parts (are_plain_stmts a) (is_plain is) h).0)
+    ∙ ap (λ js. i ∷ js) (items_stay (defines_with ds i) (scope_with s i) is m.left (and_parts (are_plain_stmts a) (is_plain is) h).1)
+
+plain_stays : (p : Program) → is_plain p ≡ true → carried_out p ≡ p
+plain_stays p h = items_stay [] nowhere p (beside_program p) h
+
+-- ---- what stands for a program
+
+-- a program without a directive stands for itself
+pub stands_for_itself : (source : code.Program) → IsChecked source → first_directive (placed_program source) ≡ None → IsBuilt (placed_program source)
+    → bare_program source ≡ forget_program (placed_program source) → StandsFor (placed_program source) (bare_program source)
+stands_for_itself source checked without built same =
+    let p = placed_program source in
+    let plain : is_plain (forget_program p) ≡ true = plain_program p without (subst WellFormed same checked.well_formed).0 in
     record {
-      plain = holds_none (carried_out p) g.plain;
-      outcome = λ n input least. (outcomes_agree n p (carried_out p) input g.related).0;
-      turns = λ n input least. (outcomes_agree n p (carried_out p) input g.related).1;
-      loops = same_skeleton p r.reversible;
+      built = built;
+      text = same ∙ sym (plain_stays (forget_program p) plain);
+      carried_out = subst (λ q. CarriesOut q (forget_program p)) (sym same) (record { plain = plain; outcome = λ n input least. refl; turns = λ n input least. refl; loops = refl });
+      unchanged = λ is. same;
+      names = breaks_none (bare_program source) p same checked.no_breach;
+      height = checked.height;
     }
 
--- what stands for a checked program
-pub record Stands (p : placed.Program) (q : Program) : Type 0 where
-  pub carried_out : CarriesOut q (forget_program p)
-  pub unchanged : is_plain (forget_program p) ≡ true → q ≡ forget_program p
-  pub names : BreaksNone q
-  pub height : program_height q ≤ most_height
-  pub well_formed : WellFormed q
+-- what is carried out of a program stands for it
+pub stands_carried_out : (source result : code.Program) → bare_program source ≡ forget_program (placed_program source) → IsBuilt (placed_program source)
+    → IsChecked result → bare_program result ≡ forget_program (placed_program result) → bare_program result ≡ carried_out (bare_program source) → HoldsNoDirective (bare_program result)
+    → ((n : ℕ) (input : List ℤ) → outcome n (bare_program result) input ≡ outcome n (bare_program source) input)
+    → ((n : ℕ) (input : List ℤ) → turns_of n (bare_program result) input ≡ turns_of n (bare_program source) input)
+    → skeleton (bare_program result) ≡ skeleton (bare_program source) → StandsFor (placed_program source) (bare_program result)
+stands_carried_out source result same built checked forgotten text plain outcomes turns loops =
+    let p = placed_program source in
+    let is_text : bare_program result ≡ carried_out (forget_program p) = text ∙ ap carried_out same in
+    record {
+      built = built;
+      text = is_text;
+      carried_out = subst (CarriesOut (bare_program result)) same (record {
+        plain = holds_none (bare_program result) plain;
+        outcome = λ n input least. outcomes n input;
+        turns = λ n input least. turns n input;
+        loops = loops;
+      });
+      unchanged = λ is. is_text ∙ plain_stays (forget_program p) is;
+      names = breaks_none (bare_program result) (placed_program result) forgotten checked.no_breach;
+      height = checked.height;
+    }
 
-pub stands : (p : placed.Program) (q : Program) → WellFormed (forget_program p) → BreaksNone (forget_program p) → program_height (forget_program p) ≤ most_height → StandsFor p q → Stands p q
-stands p q well names height (inl h) =
-    subst (Stands p) (sym h.1) (record { carried_out = carries_itself p h.0 well; unchanged = λ plain. refl; names = names; height = height; well_formed = well })
-stands p q well names height (inr h) =
-    let r = h.2 in
-    subst (Stands p) (sym h.3) (record {
-      carried_out = reverses (forget_program p) well r;
-      unchanged = λ plain. absurd (let none : first_directive p ≡ None = plain_holds_none p plain in let some : Some h.0 ≡ None = sym h.1 ∙ none in cc);
-      names = r.names;
-      height = r.height;
-      well_formed = stays_well_formed (forget_program p) r.reversible well;
-    })
-
-pub built : (p : placed.Program) (q : Program) → StandsFor p q → IsBuilt p
-built p q (inl h) = inl h.0
-built p q (inr h) = inr h.2
+pub ruleset carrying_out = (built_reverses, stands_for_itself, stands_carried_out)

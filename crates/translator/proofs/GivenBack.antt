@@ -1,5 +1,5 @@
 -- A translation is accepted, and is translated to itself.
-use Rattle.std.proofs.Common.{◌≡◌, ℕ, ◌≤◌, true, List, ◌∙◌, sym, ap, subst, inl}
+use Rattle.std.proofs.Common.{◌≡◌, ℕ, ◌≤◌, true, List, ◌∙◌, sym, ap, subst}
 use Rattle.c_tree.specs.Forget.{forget_program}
 use Rattle.c_tree.specs.Height.{program_height}
 use Rattle.c_grammar.specs.Programs.{tops_of}
@@ -12,6 +12,7 @@ use Rattle.c_meaning.specs.Plain.{is_plain}
 use Rattle.translator.specs.Answers.{SpellsChecked, SpellsAdmitted, IsTranslation, IsAccepted}
 use Rattle.translator.proofs.Plain.{plain_holds_none}
 use Rattle.translator.proofs.Unbroken.{unbroken_without_directives}
+use Rattle.translator.proofs.AllReverse.{nothing_to_build}
 
 pub given_back : (text written again : List ℕ) → IsTranslation text written → IsTranslation written again → again ≡ written
 given_back text written again t u =
@@ -32,4 +33,4 @@ accepted_again text written t =
     } in
     let none = plain_holds_none q (subst (λ b. is_plain b ≡ true) (sym back.same) t.tree.carried_out.plain) in
     let admitted : SpellsAdmitted back.tokens q = record { checked = checked; loops = unbroken_without_directives q none } in
-    (back.tokens, q, back.cut, admitted, inl none)
+    (back.tokens, q, back.cut, admitted, nothing_to_build q none)

@@ -20,7 +20,8 @@ use Rattle.canonical_nests.specs.declared.rules.LoopBreach.{LoopBreach}
 use Rattle.canonical_nests.specs.declared.rules.LoopRule.{LoopRule}
 use Rattle.translator.proofs.Breaches.{unbroken}
 use Rattle.translator.proofs.Unbroken.{unbroken_loops}
-use Rattle.translator.specs.Answers.{SpellsChecked, SpellsAdmitted, IsBuilt, unbuilt_place, TokensRefused, IsRefused, IsAccepted, IsAdmittedText, IsCause, IsOfRules}
+use Rattle.translator.specs.Answers.{SpellsChecked, SpellsAdmitted, IsBuilt, TokensRefused, IsRefused, IsAccepted, IsAdmittedText, IsCause, IsOfRules}
+use Rattle.translator.specs.Unbuilt.{first_unbuilt}
 use Rattle.translator.specs.declared.refusal.Refusal.{Refusal}
 use Rattle.translator.specs.declared.refusal.Refusal.TheVariants.{Lex, Parse, Names, Loops, NotBuilt, Memory}
 
@@ -61,12 +62,15 @@ admitted_tokens tokens p s Memory c o h = c
 pub admitted_or_refused : (text : List ℕ) (p : placed.Program) → IsAdmittedText text p → (r : Refusal) → IsCause r → IsOfRules r → IsRefused r text → ⊥
 admitted_or_refused text p a r c o h = admitted_tokens a.0 p a.2 r c o (by_tokens text a.0 a.1 r c h)
 
+built_or_unbuilt : (o : Option ℕ) (place : ℕ) → o ≡ None → o ≡ Some place → ⊥
+built_or_unbuilt o place h k = cc
+
 accepted_tokens : (tokens : List Token) (p : placed.Program) → SpellsAdmitted tokens p → IsBuilt p → (r : Refusal) → IsCause r → TokensRefused r tokens → ⊥
 accepted_tokens tokens p s b (Lex kind place) c h = h
 accepted_tokens tokens p s b (Parse kind place) c h = admitted_tokens tokens p s (Parse kind place) tt tt h
 accepted_tokens tokens p s b (Names rule place) c h = admitted_tokens tokens p s (Names rule place) tt tt h
 accepted_tokens tokens p s b (Loops rule place) c h = admitted_tokens tokens p s (Loops rule place) tt tt h
-accepted_tokens tokens p s b (NotBuilt place) c h = h.2.1 (subst IsBuilt (one_tree tokens p h.0 s.checked.tree h.1.checked.tree) b)
+accepted_tokens tokens p s b (NotBuilt place) c h = built_or_unbuilt (first_unbuilt h.0) place (subst IsBuilt (one_tree tokens p h.0 s.checked.tree h.1.checked.tree) b) h.2
 accepted_tokens tokens p s b Memory c h = c
 
 pub accepted_or_refused : (text : List ℕ) → IsAccepted text → (r : Refusal) → IsCause r → IsRefused r text → ⊥
@@ -135,7 +139,7 @@ refused_once tokens (Loops rule place) (NotBuilt place') c d h i = absurd (admit
 refused_once tokens (NotBuilt place) (Parse k m) c d h i = absurd (admitted_tokens tokens h.0 h.1 (Parse k m) tt tt i)
 refused_once tokens (NotBuilt place) (Names rule place') c d h i = absurd (admitted_tokens tokens h.0 h.1 (Names rule place') tt tt i)
 refused_once tokens (NotBuilt place) (Loops rule place') c d h i = absurd (admitted_tokens tokens h.0 h.1 (Loops rule place') tt tt i)
-refused_once tokens (NotBuilt place) (NotBuilt place') c d h i = unbuilt_once place place' (unbuilt_place h.0) h.2.0 (subst (λ p. unbuilt_place p ≡ Some place') (one_tree tokens i.0 h.0 i.1.checked.tree h.1.checked.tree) i.2.0)
+refused_once tokens (NotBuilt place) (NotBuilt place') c d h i = unbuilt_once place place' (first_unbuilt h.0) h.2 (subst (λ p. first_unbuilt p ≡ Some place') (one_tree tokens i.0 h.0 i.1.checked.tree h.1.checked.tree) i.2)
 
 -- ---- so are texts
 

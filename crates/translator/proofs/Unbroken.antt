@@ -1,29 +1,21 @@
 -- What breaks no loop rule has no least breach, and a program without a directive breaks none.
-use Rattle.std.proofs.Common.{◌≡◌, ℕ, zero, suc, Bool, true, false, List, [], ◌∷◌, Option, Some, None, refl, sym, subst, if◌then◌else◌}
-use Rattle.std.specs.Option.{option_or}
+use Rattle.std.proofs.Common.{◌≡◌, ℕ, zero, suc, Bool, true, false, List, [], ◌∷◌, Option, Some, None, sym, subst, if◌then◌else◌}
 use Rattle.c_tree.specs.Placed.{Stmt, decl, set, step, print, input, if_, if_else, while_, do_, for_, block, break_, continue_, empty, omp, call, Stmts, no_stmts, more_stmts, directive, Top, define, extern_, global, function, main, Program}
 use Rattle.c_tree.specs.Forget.{forget_top}
 use Rattle.c_semantics.specs.Meaning.State.{State, nowhere}
 use Rattle.c_semantics.specs.Meaning.Expressions.{Define}
 use Rattle.c_semantics.specs.Meaning.FileVariables.{FunctionAccess, accesses_with, defines_with}
 use Rattle.canonical_nests.specs.Weight.{scope_with}
-use Rattle.canonical_nests.specs.LoopRules.BreachSets.{BreachSet, none, one, ◌&◌, HasNone, least, or_else, has_some}
+use Rattle.canonical_nests.specs.LoopRules.BreachSets.{BreachSet, HasNone, least, or_else, has_some}
 use Rattle.canonical_nests.specs.LoopRules.Programs.{stmt_directive, stmts_directive, top_directive, first_directive, stmt_breaches, stmts_breaches, top_breaches, breaches_from, nest_breaches, height_breaches, weight_breaches, breaches}
 use Rattle.canonical_nests.specs.declared.rules.LoopBreach.{LoopBreach}
-
-least_of_none : (s : BreachSet) → HasNone s → least s ≡ None
-least_of_none none h = refl
-least_of_none (one b) h = absurd h
-least_of_none (x & y) h = rw (least_of_none x h.0, least_of_none y h.1) refl
+use Rattle.canonical_nests.proofs.BreachSets.{least_of_none}
+use Rattle.translator.proofs.Plain.{both_none}
 
 pub unbroken_loops : (s : BreachSet) (b : LoopBreach) → HasNone s → least s ≡ Some b → ⊥
 unbroken_loops s b h e = let n = least_of_none s h in cc
 
 -- ---- programs without a directive
-
-both_none : (p q : Option ℕ) → option_or p q ≡ None → (p ≡ None) × (q ≡ None)
-both_none None q without = (refl, without)
-both_none (Some p) q without = cc
 
 module _ (ds : List Define) (fs : List FunctionAccess) where
   mutual

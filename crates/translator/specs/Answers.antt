@@ -1,6 +1,5 @@
 -- The answer for a text: why it is refused, which is the first that applies; or what it is translated to.
-use Rattle.std.specs.Prelude.{◌≡◌, ℕ, ◌≤◌, ℤ, List, Option, Some, None, true, ◌⊎◌}
-use Rattle.std.specs.Option.{option_or}
+use Rattle.std.specs.Prelude.{◌≡◌, ℕ, ◌≤◌, ℤ, List, Some, None, true}
 use Rattle.c_tree.specs.Checked.{most_height}
 use Rattle.c_tree.specs.Height.{program_height}
 use Rattle.c_tree.specs.Bare.{Program}
@@ -19,9 +18,8 @@ use Rattle.c_semantics.specs.Structure.Skeleton.{skeleton}
 use Rattle.c_meaning.specs.Plain.{is_plain}
 use Rattle.c_soundness.specs.NameBreaches.{BreaksNone}
 use Rattle.canonical_nests.specs.LoopRules.BreachSets as loop_rules
-use Rattle.canonical_nests.specs.LoopRules.Programs.{first_directive, breaches as loop_breaches}
-use Rattle.apply_rewrite.specs.Reversible.{is_reversible_program}
-use Rattle.apply_rewrite.specs.CarriedOut.{carried_out}
+use Rattle.canonical_nests.specs.LoopRules.Programs.{breaches as loop_breaches}
+use Rattle.carried_out.specs.CarriedOut.{carried_out}
 use Rattle.translator.specs.Unbuilt.{first_unbuilt}
 use Rattle.translator.specs.declared.refusal.Refusal.{Refusal}
 use Rattle.translator.specs.declared.refusal.Refusal.TheVariants.{Lex, Parse, Names, Loops, NotBuilt, Memory}
@@ -38,34 +36,10 @@ pub record SpellsAdmitted (tokens : List Token) (program : placed.Program) : Typ
   pub checked : SpellsChecked tokens program
   pub loops : loop_rules.HasNone (loop_breaches program)
 
--- Each directive is a `reverse` without clauses, over a canonical loop that declares its variable and that no `break`
--- leaves; and the program in which these are carried out breaks no name rule and has height at most 256.
-pub record IsReversible (program : Program) : Type 0 where
-  pub reversible : is_reversible_program program ≡ true
-  pub names : BreaksNone (carried_out program)
-  pub height : program_height (carried_out program) ≤ most_height
-
--- What is translated and run so far: a program without a directive, or with such directives.
+-- What is translated and run so far: a program each directive of which, and each item of `apply` but `nothing`, is
+-- `reverse`.
 abbrev pub IsBuilt : placed.Program → Type 0
-IsBuilt program = (first_directive program ≡ None) ⊎ IsReversible (forget_program program)
-
--- the program that stands for it: itself, or with its directives carried out
-abbrev pub StandsFor : placed.Program → Program → Type 0
-StandsFor program result =
-    ((first_directive program ≡ None) × (result ≡ forget_program program))
-    ⊎ ((place : ℕ) × (first_directive program ≡ Some place) × IsReversible (forget_program program) × (result ≡ carried_out (forget_program program)))
-
--- a program can't be a checked one, and so the refusal is at the place
-abbrev pub CannotStand : Refusal → ℕ → Program → Type 0
-CannotStand (NotBuilt at) place program = (at ≡ place) × (BreaksNone program → program_height program ≤ most_height → ⊥)
-CannotStand Memory place program = Unit {0}
-CannotStand _ place program = ⊥
-
--- its directives can't be carried out so
-abbrev pub CannotBeReversed : Refusal → ℕ → Program → Type 0
-CannotBeReversed (NotBuilt at) place program = (at ≡ place) × (IsReversible program → ⊥)
-CannotBeReversed Memory place program = Unit {0}
-CannotBeReversed _ place program = ⊥
+IsBuilt program = first_unbuilt program ≡ None
 
 -- ---- why a text is refused
 
@@ -81,13 +55,9 @@ BreaksLoops (Loops rule place) program = loop_rules.least (loop_breaches program
 BreaksLoops Memory program = Unit {0}
 BreaksLoops _ program = ⊥
 
--- its first directive or item that isn't carried out yet, else its first directive
-abbrev pub unbuilt_place : placed.Program → Option ℕ
-unbuilt_place program = option_or (first_unbuilt program) (first_directive program)
-
--- a program that breaks no rule, and isn't built, is refused so
+-- a program that breaks no rule, and isn't built, is refused so: at its first directive or item that isn't carried out yet
 abbrev pub IsUnbuilt : Refusal → placed.Program → Type 0
-IsUnbuilt (NotBuilt place) program = (unbuilt_place program ≡ Some place) × (IsBuilt program → ⊥)
+IsUnbuilt (NotBuilt place) program = first_unbuilt program ≡ Some place
 IsUnbuilt Memory program = Unit {0}
 IsUnbuilt _ program = ⊥
 
@@ -127,6 +97,16 @@ pub record CarriesOut (result source : Program) : Type 0 where
   pub outcome : (n : ℕ) (input : List ℤ) → 1 ≤ n → outcome n result input ≡ outcome n source input
   pub turns : (n : ℕ) (input : List ℤ) → 1 ≤ n → turns_of n result input ≡ turns_of n source input
   pub loops : skeleton result ≡ skeleton source
+
+-- The program stands for one that is built: it is that one with its directives carried out, which does the same, and is
+-- that one itself where it has no directive. It breaks no name rule and has height at most 256.
+pub record StandsFor (source : placed.Program) (result : Program) : Type 0 where
+  pub built : IsBuilt source
+  pub text : result ≡ carried_out (forget_program source)
+  pub carried_out : CarriesOut result (forget_program source)
+  pub unchanged : is_plain (forget_program source) ≡ true → result ≡ forget_program source
+  pub names : BreaksNone result
+  pub height : program_height result ≤ most_height
 
 -- The program carries out the one that the text reads as, and is that one itself where it has no directive. It breaks no
 -- name rule and has height at most 256.

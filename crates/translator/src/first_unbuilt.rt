@@ -1,6 +1,6 @@
 //! The first directive or item of a program that isn't carried out yet.
 
-ghost use Rattle.std.specs.Prelude.{◌≡◌, map};
+ghost use Rattle.std.specs.Prelude.{◌≡◌};
 ghost use Rattle.c_tree.specs.PlacedOf.{placed_directive, placed_clauses, placed_clause, placed_items, placed_item, placed_stmt, placed_stmts, placed_top, placed_program};
 ghost use Rattle.translator.specs.Unbuilt as unbuilt;
 

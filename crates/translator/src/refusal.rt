@@ -26,8 +26,7 @@ pub enum Refusal {
     /// L27.
     Loops(LoopRule, u64),
 
-    /// Its program can't be carried out yet: the place of the first directive or item that isn't carried out yet, else of
-    /// the first directive.
+    /// Its program can't be carried out yet: the place of the first directive or item that isn't carried out yet.
     NotBuilt(u64),
 
     /// There was no memory for the answer.

@@ -1,6 +1,6 @@
 //! Translates a text.
 
-ghost use Rattle.std.specs.Prelude.{◌≡◌, ℕ, ◌<◌, ◌≤◌, ◌^◌, List, IfOk, IfErr, OnOk, MatchResult, length};
+ghost use Rattle.std.specs.Prelude.{ℕ, ◌<◌, ◌^◌, List, IfOk, IfErr, OnOk, MatchResult, length};
 ghost use Rattle.c_lexer.specs.Cut.{Cut, IsFault};
 ghost use Rattle.translator.specs.Answers.{IsRefused, IsTranslation, TokensRefused, IsAccepted};
 

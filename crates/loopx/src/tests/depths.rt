@@ -19,7 +19,7 @@ type Row = (
 /// A part, and how often it stands there.
 type Times = (&'static str, usize);
 
-const NESTS: [Row; 14] = [
+const NESTS: [Row; 20] = [
     // A literal has height 1, and each sign, `print` and `main` one more.
     ("print(", ("- ", 253), "1", ("", 0), ");", ""),
     (
@@ -102,7 +102,54 @@ const NESTS: [Row; 14] = [
         "",
         "4:13: L26 result too deep\n",
     ),
+    // A loop of height 3 has 14 more with each `reverse` over it; 18 of them and `main` make 256.
+    ("", (REVERSE, 18), LOOP, ("", 0), "", ""),
+    (
+        "{",
+        (REVERSE, 18),
+        LOOP,
+        ("}", 1),
+        "",
+        "4:13: L26 result too deep\n",
+    ),
+    (
+        "",
+        (REVERSE, 19),
+        LOOP,
+        ("", 0),
+        "",
+        "4:13: L26 result too deep\n",
+    ),
+    // An item has 13 more, and 18 of them in one another the height 18.
+    (
+        "{{\n#pragma omp reverse",
+        (" apply(reverse", 17),
+        "",
+        (")", 17),
+        "\nfor (int i = 0; i < 2; i++) print(i); }}",
+        "",
+    ),
+    (
+        "{{{\n#pragma omp reverse",
+        (" apply(reverse", 17),
+        "",
+        (")", 17),
+        "\nfor (int i = 0; i < 2; i++) print(i); }}}",
+        "4:13: L26 result too deep\n",
+    ),
+    (
+        "#pragma omp reverse",
+        (" apply(reverse", 18),
+        "",
+        (")", 18),
+        "\nfor (int i = 0; i < 2; i++) print(i);",
+        "3:13: L26 result too deep\n",
+    ),
 ];
+
+const REVERSE: &str = "\n#pragma omp reverse";
+
+const LOOP: &str = "\nfor (int i = 0; i < 2; i++) print(i);\n";
 
 const REVERSED: &str = "\n#pragma omp reverse\nfor (int i = 0; i < 2; i++) print(i);\n";
 

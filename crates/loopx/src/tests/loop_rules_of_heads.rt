@@ -24,7 +24,7 @@ const HEADS: [Row; 58] = [
     ),
     (
         "int i = 0;\n#pragma omp reverse\nfor (i = 0; i < 4; i++) ;",
-        "4:13: NotBuilt not built yet\n",
+        "",
     ),
     (
         "int i = 0;\n#pragma omp reverse\nfor (int j = 0; j < 4; j++) for (i += 0; i < 4; i++) ;",

@@ -1,6 +1,6 @@
 //! Texts whose directives are all `reverse`: they run as their order says, and so do their translations.
 
-use super::{Answer, answer_at_once, word_list};
+use super::{Answer, answer_at_once, in_main, word_list};
 use crate::status::Status;
 use std::alloc::{AllocError, Global};
 use std::process::Abort;
@@ -10,7 +10,7 @@ use std::test::Fail;
 type Row = (&'static str, &'static str, &'static str);
 
 /// Heads of reversed loops that print their variable.
-const HEADS: [Row; 33] = [
+const HEADS: [Row; 34] = [
     ("int i = 0; i < 4; ++i", "3\n2\n1\n0\n", ""),
     ("int i = 1; i <= 4; i++", "4\n3\n2\n1\n", ""),
     ("int i = 4; i > 0; i--", "1\n2\n3\n4\n", ""),
@@ -39,6 +39,11 @@ const HEADS: [Row; 33] = [
     (
         "int i = -2147483647; i >= -2147483647 - 1; i--",
         "-2147483648\n-2147483647\n",
+        "",
+    ),
+    (
+        "int i = -2147483647 - 1; i <= 2147483647; i += 1073741824",
+        "1073741824\n0\n-1073741824\n-2147483648\n",
         "",
     ),
     (
@@ -97,7 +102,7 @@ const HEADS: [Row; 33] = [
 ];
 
 /// Where reversed loops may stand, and what may stand in them.
-const PLACES: [Row; 20] = [
+const PLACES: [Row; 21] = [
     (
         "#pragma omp reverse\n#pragma omp reverse\nfor (int i = 0; i < 3; i++) print(i);",
         "0\n1\n2\n",
@@ -175,6 +180,11 @@ const PLACES: [Row; 20] = [
         "trap InputEnd\n",
     ),
     (
+        "print(1);\n#pragma omp reverse\nfor (long long i = -9223372036854775807LL - 1LL; i <= 9223372036854775807LL; i++) print(i);",
+        "1\n",
+        "trap Overflow\n",
+    ),
+    (
         "print(7);\n#pragma omp reverse\nfor (int i = 0; i < 3; i++) { print(i); if (i == 1) zero = 1 / zero; }",
         "7\n2\n1\n",
         "trap DivideByZero\n",
@@ -197,9 +207,168 @@ const PLACES: [Row; 20] = [
     ),
 ];
 
+/// Directives with items, and stacks with such.
+const ITEMS: [Row; 18] = [
+    (
+        "#pragma omp reverse apply(nothing)\nfor (int i = 0; i < 3; i++) print(i);",
+        "2\n1\n0\n",
+        "",
+    ),
+    (
+        "#pragma omp reverse apply(reversed: nothing)\nfor (int i = 0; i < 3; i++) print(i);",
+        "2\n1\n0\n",
+        "",
+    ),
+    (
+        "#pragma omp reverse apply(reverse)\nfor (int i = 0; i < 3; i++) print(i);",
+        "0\n1\n2\n",
+        "",
+    ),
+    (
+        "#pragma omp reverse apply(reversed: reverse)\nfor (int i = 0; i < 3; i++) print(i);",
+        "0\n1\n2\n",
+        "",
+    ),
+    (
+        "#pragma omp reverse apply(reversed(N - 2): reverse)\nfor (int i = 0; i < 3; i++) print(i);",
+        "0\n1\n2\n",
+        "",
+    ),
+    (
+        "#pragma omp reverse apply(reverse apply(reverse))\nfor (int i = 0; i < 3; i++) print(i);",
+        "2\n1\n0\n",
+        "",
+    ),
+    (
+        "#pragma omp reverse apply(reverse apply(nothing))\nfor (int i = 0; i < 3; i++) print(i);",
+        "0\n1\n2\n",
+        "",
+    ),
+    (
+        "#pragma omp reverse apply(reversed: reverse)\n#pragma omp reverse\nfor (int i = 0; i < 3; i++) print(i);",
+        "2\n1\n0\n",
+        "",
+    ),
+    (
+        "#pragma omp reverse\n#pragma omp reverse apply(reversed: reverse)\nfor (int i = 0; i < 3; i++) print(i);",
+        "2\n1\n0\n",
+        "",
+    ),
+    (
+        "#pragma omp reverse\n{ {\n#pragma omp reverse apply(reverse apply(reverse apply(reverse)))\n{ for (int i = 0; i < 3; i++) print(i); }\n} }",
+        "2\n1\n0\n",
+        "",
+    ),
+    (
+        "#pragma omp reverse apply(reverse apply(reverse apply(reverse)))\n#pragma omp reverse apply(reverse)\nfor (int i = 0; i < 3; i++) print(i);",
+        "0\n1\n2\n",
+        "",
+    ),
+    (
+        "#pragma omp reverse apply(nothing) apply(reverse)\nfor (int i = 0; i < 3; i++) print(i);",
+        "0\n1\n2\n",
+        "",
+    ),
+    (
+        "#pragma omp reverse apply(reverse)\nfor (int i = 0; i < 2; i++) {\n#pragma omp reverse\nfor (int j = 0; j < 2; j++) print(10 * i + j);\n#pragma omp reverse apply(reverse)\nfor (int j = i; j < 2; j++) print(10 * i + j);\n}",
+        "1\n0\n0\n1\n11\n10\n11\n",
+        "",
+    ),
+    (
+        "#pragma omp reverse apply(reverse)\nfor (int i = 0; i < 5; i++) { if (i % 2) continue; print(i); }",
+        "0\n2\n4\n",
+        "",
+    ),
+    (
+        "#pragma omp reverse\nfor (int i = 0; i < 3; i++) {\n#pragma omp reverse\nfor (int j = 0; j < 3; j++) { if (j == i) continue; print(10 * i + j); }\nif (i == 1) continue;\nprint(i);\n}",
+        "21\n20\n2\n12\n10\n2\n1\n0\n",
+        "",
+    ),
+    (
+        "int n = input();\n#pragma omp reverse apply(reverse)\nfor (int i = 0; i < n; i++) { int x = input(); print(10 * i + x); }",
+        "4\n15\n",
+        "trap InputEnd\n",
+    ),
+    (
+        "print(7);\n#pragma omp reverse apply(reverse)\nfor (int i = 0; i < 3; i++) { print(i); if (i == 1) zero = 1 / zero; }",
+        "7\n0\n1\n",
+        "trap DivideByZero\n",
+    ),
+    (
+        "#pragma omp reverse apply(reverse)\nfor (int i = 0; i < 101; i++) if (i == 99) print(i);",
+        "99\n",
+        "cut\n",
+    ),
+];
+
+/// Loops over a variable that stands outside, and what it is worth afterwards.
+const OUTER: [Row; 13] = [
+    (
+        "int i = 9;\n#pragma omp reverse\nfor (i = 0; i < 3; i++) print(i);\nprint(i);",
+        "2\n1\n0\n9\n",
+        "",
+    ),
+    (
+        "int omp_t0 = 9; int i = 9;\n#pragma omp reverse\nfor (i = 0; i < 2; i++) print(i + omp_t0);\nprint(i);",
+        "10\n9\n9\n",
+        "",
+    ),
+    (
+        "int i;\n#pragma omp reverse\nfor (i = 0; i < 2; i++) print(i);\nprint(i);",
+        "1\n0\n",
+        "trap Unset\n",
+    ),
+    (
+        "#pragma omp reverse\nfor (zero = 5; zero < 7; zero++) print(zero);\nprint(zero);",
+        "6\n5\n0\n",
+        "",
+    ),
+    ("over(7, 3); over(-9, 0);", "1\n3\n7\n-2\n0\n-9\n", ""),
+    (
+        "int i = 9;\n#pragma omp reverse apply(reverse)\nfor (i = 2; i <= 8; i += 3) print(i);\nprint(i);",
+        "2\n5\n8\n9\n",
+        "",
+    ),
+    (
+        "int i = 9;\n#pragma omp reverse\nfor (i = 3; i <= 2; i++) print(i);\nprint(i);",
+        "9\n",
+        "",
+    ),
+    (
+        "int k = 2, i = 9;\nwhile (k) {\n#pragma omp reverse apply(reverse)\nfor (i = 0; i < k; i++) print(i);\nk--;\n}\nprint(i);",
+        "0\n1\n0\n9\n",
+        "",
+    ),
+    (
+        "int i = 5, j = 6;\n#pragma omp reverse\nfor (i = 0; i < 2; i++) {\n#pragma omp reverse\nfor (j = i; j < 3; j++) print(10 * i + j);\nprint(j);\n}\nprint(i + j);",
+        "12\n11\n6\n2\n1\n0\n6\n11\n",
+        "",
+    ),
+    (
+        "int i = 5;\n#pragma omp reverse\nfor (i = 0; i < 2; i++) {\n#pragma omp reverse\nfor (int i = 7; i < 9; i++) print(i);\nprint(i);\n}\nprint(i);",
+        "8\n7\n1\n8\n7\n0\n5\n",
+        "",
+    ),
+    (
+        "long long i = 9223372036854775807;\n{\nint i = 1;\n#pragma omp reverse\nfor (i = 2147483646; i <= 2147483647; i++) print(i);\nprint(i);\n}\n#pragma omp reverse\nfor (i = 2147483647; i <= 2147483648; i++) print(i);\nprint(i);",
+        "2147483647\n2147483646\n1\n2147483648\n2147483647\n9223372036854775807\n",
+        "",
+    ),
+    (
+        "int i;\n{\nlong long i;\ni = 4;\n}\n#pragma omp reverse\nfor (i = 0; i < 3000000000; i++) print(i);",
+        "",
+        "trap Narrow\n",
+    ),
+    (
+        "int i = 3;\n#pragma omp reverse\nfor (i = 0; i < 3; i++) { int i = 8; i++; print(i); }\nprint(i);",
+        "9\n9\n9\n3\n",
+        "",
+    ),
+];
+
 /// What stands before the pieces.
 const DECLARED: &str =
-    "void print(long long);\nlong long input(void);\n#define N 3\nint a[4], zero, omp_t3 = 2;\nstatic void down(int n) {\n#pragma omp reverse\nfor (int i = 0; i < n; i++) print(i);\n}\nint main(void) {\nint unset;\n";
+    "void print(long long);\nlong long input(void);\n#define N 3\nint a[4], zero, omp_t3 = 2;\nstatic void down(int n) {\n#pragma omp reverse\nfor (int i = 0; i < n; i++) print(i);\n}\nstatic void over(long long n, int k) {\n#pragma omp reverse\nfor (n = k; n > k - 3; n -= 2) print(n);\nprint(n);\n}\nint main(void) {\nint unset;\n";
 
 /// A stack over a loop downwards, in a program that has a name like a fresh one.
 const STACK: &[u8] =
@@ -245,14 +414,62 @@ fn reverses_loops_with_all_tests_and_bounds(rt: HostRuntime) -> Result<(), Fail>
     Ok(())
 }
 
+/// The same loops over a variable that stands outside, turned round three times; it is worth 77 before and after.
 #[test]
-fn reverses_loops_wherever_they_stand(rt: HostRuntime) -> Result<(), Fail> {
-    for row in &PLACES {
-        let piece = row.0;
-        let text = format!(in rt.alloc(); "{DECLARED}{piece}\n}}\n")?;
+fn loops_leave_a_variable_that_stands_outside(rt: HostRuntime) -> Result<(), Fail> {
+    for row in &HEADS {
+        let (ty, head) = row.0.split_once(" i = ").unwrap_or((row.0, ""));
+        let text = format!(in rt.alloc();
+            "{DECLARED}{ty} i = 77;\n#pragma omp reverse apply(reverse)\n#pragma omp reverse\nfor (i = {head}) print(i);\nif (i != 77) print(i);\n}}\n"
+        )?;
         runs_as_translated(&rt, rt.alloc(), text.as_bytes(), row)?;
     }
     Ok(())
+}
+
+fn pieces_run_as_translated(rt: &impl Abort, alloc: Global, rows: &[Row]) -> Result<(), Fail> {
+    for row in rows {
+        let piece = row.0;
+        let text = format!(in alloc; "{DECLARED}{piece}\n}}\n")?;
+        runs_as_translated(rt, alloc, text.as_bytes(), row)?;
+    }
+    Ok(())
+}
+
+#[test]
+fn reverses_loops_wherever_they_stand(rt: HostRuntime) -> Result<(), Fail> {
+    pieces_run_as_translated(&rt, rt.alloc(), &PLACES)
+}
+
+#[test]
+fn items_act_on_reversed_loops(rt: HostRuntime) -> Result<(), Fail> {
+    pieces_run_as_translated(&rt, rt.alloc(), &ITEMS)
+}
+
+#[test]
+fn loops_have_their_own_copy_of_a_variable(rt: HostRuntime) -> Result<(), Fail> {
+    pieces_run_as_translated(&rt, rt.alloc(), &OUTER)
+}
+
+/// A loop under so many directives.
+fn under(alloc: Global, directives: usize) -> Result<String, AllocError> {
+    let mut lines = String::new(alloc);
+    for _ in 0..directives {
+        lines.push_str("#pragma omp reverse\n")?;
+    }
+    lines.push_str("for (int i = 0; i < 5; i++) print(i);")?;
+    in_main(alloc, lines.as_str())
+}
+
+/// The result of 18 has height 256.
+#[test]
+fn reverses_a_loop_up_to_18_times(rt: HostRuntime) -> Result<(), Fail> {
+    let most = under(rt.alloc(), 18)?;
+    let row = ("18 directives", "0\n1\n2\n3\n4\n", "");
+    runs_as_translated(&rt, rt.alloc(), most.as_bytes(), &row)?;
+    let more = under(rt.alloc(), 19)?;
+    let row = ("19 directives", "", "3:13: L26 result too deep\n");
+    runs(&rt, rt.alloc(), more.as_bytes(), &row)
 }
 
 #[test]

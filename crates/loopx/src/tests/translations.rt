@@ -19,6 +19,21 @@ const EMPTY_LOOP: &[u8] =
 const EMPTY_LOOP_IN_PLAIN_C: &[u8] =
     b"extern void print(long long);\nint main(void) {\n    {\n        int omp_t0 = 5;\n        int omp_t1 = 5;\n        long long omp_t2 = omp_t0 < omp_t1 ? ((long long)omp_t1 - (long long)omp_t0 - 1LL) / 1LL + 1LL : 0LL;\n        for (long long omp_t4 = 0LL; omp_t4 < omp_t2; omp_t4++) {\n            long long omp_t3 = omp_t2 - 1LL - omp_t4;\n            int i = (int)((long long)omp_t0 + omp_t3 * 1LL);\n            {\n                print(i);\n            }\n        }\n    }\n    return 0;\n}\n";
 
+/// A loop over a variable that stands outside, turned round twice.
+const OUTER_LOOP: &[u8] =
+    b"void print(long long);\nint main(void) {\nint i = 9;\n#pragma omp reverse apply(reversed: reverse)\nfor (i = 0; i < 3; i++) print(i);\nprint(i);\n}\n";
+
+/// The variable of the loop is one of the block, which hides the other.
+const OUTER_LOOP_IN_PLAIN_C: &[u8] =
+    b"extern void print(long long);\nint main(void) {\n    int i = 9;\n    {\n        int omp_t0 = 0;\n        int omp_t1 = 3;\n        long long omp_t2 = omp_t0 < omp_t1 ? ((long long)omp_t1 - (long long)omp_t0 - 1LL) / 1LL + 1LL : 0LL;\n        for (long long omp_t5 = 0LL; omp_t5 < omp_t2; omp_t5++) {\n            long long omp_t4 = omp_t2 - 1LL - omp_t5;\n            long long omp_t3 = omp_t2 - 1LL - omp_t4;\n            int i = (int)((long long)omp_t0 + omp_t3 * 1LL);\n            {\n                print(i);\n            }\n        }\n    }\n    print(i);\n    return 0;\n}\n";
+
+/// The first fresh name is the first that the text doesn't have.
+const NAME_LIKE_A_FRESH_ONE: &[u8] =
+    b"void print(long long);\nint main(void) {\nint omp_t0 = 9; int i = 9;\n#pragma omp reverse\nfor (i = 0; i < 2; i++) print(i + omp_t0);\nprint(i);\n}\n";
+
+const NAME_LIKE_A_FRESH_ONE_IN_PLAIN_C: &[u8] =
+    b"extern void print(long long);\nint main(void) {\n    int omp_t0 = 9;\n    int i = 9;\n    {\n        int omp_t1 = 0;\n        int omp_t2 = 2;\n        long long omp_t3 = omp_t1 < omp_t2 ? ((long long)omp_t2 - (long long)omp_t1 - 1LL) / 1LL + 1LL : 0LL;\n        for (long long omp_t5 = 0LL; omp_t5 < omp_t3; omp_t5++) {\n            long long omp_t4 = omp_t3 - 1LL - omp_t5;\n            int i = (int)((long long)omp_t1 + omp_t4 * 1LL);\n            {\n                print(i + omp_t0);\n            }\n        }\n    }\n    print(i);\n    return 0;\n}\n";
+
 /// A program without a directive.
 pub const PLAIN: &[u8] =
     b"#define N 3\nvoid print(long long x);\nint a[N], s = 2;\nint main() { int k; for (k = 0; k < N; k++) a[k] = k*(s+1); if (a[2] > 5) print(a[2]); else ; }\n";
@@ -56,6 +71,8 @@ fn writes_a_reversed_loop_in_plain_c(rt: HostRuntime) -> Result<(), Fail> {
     for (text, plain) in [
         (REVERSED_LOOP, REVERSED_LOOP_IN_PLAIN_C),
         (EMPTY_LOOP, EMPTY_LOOP_IN_PLAIN_C),
+        (OUTER_LOOP, OUTER_LOOP_IN_PLAIN_C),
+        (NAME_LIKE_A_FRESH_ONE, NAME_LIKE_A_FRESH_ONE_IN_PLAIN_C),
     ] {
         let got = answer_to(rt.alloc(), &["translate"], text, &NOTHING_FAILS)?;
         assert_eq!(rt; got.status, Status::Done);

@@ -2,17 +2,13 @@
 use Rattle.std.proofs.Common.{◌≡◌, ◌≤◌, ◌++◌, sym, ap, ◌∙◌, rules, arith}
 use Rattle.std.specs.Vec.Iter.{into_iter_items}
 use denote.Param.Weighed.{most}
-use Rattle.c_tree.specs.BareOf.{bare_program}
+use Rattle.c_semantics.specs.Structure.Skeleton.{scope_after}
+use Rattle.c_tree.specs.BareOf.{bare_program, bare_stmt, bare_stmts}
 use Rattle.c_tree.proofs.tree.Stmt.TheLaws.{the_size}
 use Rattle.canonical_nests.specs.Canonical.{program_defines}
-use Rattle.apply_rewrite.proofs.StatementMore.{both, left_step, nest_other, next_no_larger, next_well_formed, next_whole, nowhere, tree_step}
+use Rattle.apply_rewrite.proofs.Scopes.{out_of_list}
+use Rattle.apply_rewrite.proofs.StatementMore.{left_step, nest_other, next_no_larger, next_well_formed, next_whole, nowhere, scope_step, tree_step}
 use Rattle.apply_rewrite.proofs.carrying.+carrying.Goals as goal
-
-pub carried-returns-in_ok-no-in-Some-clause-tree : goal.carried-returns-in_ok-no-in-Some-clause-tree
-carried-returns-in_ok-no-in-Some-clause-tree t c =
-    both (program_defines (bare_program c.args.defines.now)) c.args.stmt c.in-If.test c.in-If.yes c.in-Some.no c.in-If.no c.in-If.span
-    c.args.fresh.now c.carried_all-in-Some.new.fresh c.in_ok-yes-in-Some.yes c.in_ok-no-in-Some.no
-    c.in-If.is c.in-Some.is c.in_ok-yes-in-Some.ensures.tree c.in_ok-yes-in-Some.ensures.left c.in_ok-no-in-Some.ensures.tree
 
 pub carried_all-carried-requires : goal.carried_all-carried-requires
 carried_all-carried-requires t c =
@@ -26,22 +22,33 @@ pub carried_all-each-preserved : goal.carried_all-each-preserved
 carried_all-each-preserved t c =
     let ds = program_defines (bare_program c.args.defines.now) in
     let kept = c.each.invariant in
-    let said = c.in_ok-carried.ensures in
+    let said = c.in_ok-stmt.ensures in
     record {
       whole = next_whole c.each.yielded c.in-Some.stmt (into_iter_items c.next.new.self) (into_iter_items c.each.stmt-iterator) c.args.stmts kept.whole c.in-Some.ensures.steps.0;
-      tree = tree_step ds c.each.yielded c.in-Some.stmt c.args.fresh.now c.each.fresh c.each.done c.push.new.self c.in_ok-carried.field-0 kept.tree kept.left said.tree c.in_ok-push.ensures.ok;
-      left = left_step ds c.each.yielded c.in-Some.stmt c.args.fresh.now c.each.fresh c.carried.new.fresh kept.left said.left;
+      scope =
+          scope_step ds c.args.scope.now c.each.scope c.each.yielded c.in-Some.stmt c.args.fresh.now c.each.fresh kept.scope kept.left c.add_stmt.new.self c.in_ok-stmt.stmt said.tree
+          (c.in_ok-add_stmt.ensures ∙ ap (scope_after (bare_stmt c.in_ok-stmt.stmt)) said.scope);
+      tree = tree_step ds c.args.scope.now c.each.scope c.each.yielded c.in-Some.stmt c.args.fresh.now c.each.fresh kept.scope kept.left c.each.done c.push.new.self c.in_ok-stmt.stmt kept.tree said.tree c.in_ok-push.ensures.ok;
+      left = left_step ds c.args.scope.now c.each.scope c.each.yielded c.in-Some.stmt c.args.fresh.now c.each.fresh kept.scope kept.left c.carried.new.fresh said.left;
     }
 
 pub nest-returns-in-None-clause-tree : goal.nest-returns-in-None-clause-tree
 nest-returns-in-None-clause-tree t c =
-    c.no_code.ensures ∙ sym (ap (λ m. m.tree) (nest_other (program_defines (bare_program c.args.defines.now)) c.args.stmts c.args.fresh.now c.in-None.ensures))
+    c.no_code.ensures ∙ sym (ap (λ m. m.tree) (nest_other (program_defines (bare_program c.args.defines.now)) c.args.scope.now c.args.stmts c.args.fresh.now c.in-None.ensures))
 
 pub nest-returns-in-None-clause-left : goal.nest-returns-in-None-clause-left
 nest-returns-in-None-clause-left t c =
-    sym (ap (λ m. m.left) (nest_other (program_defines (bare_program c.args.defines.now)) c.args.stmts c.args.fresh.now c.in-None.ensures))
+    sym (ap (λ m. m.left) (nest_other (program_defines (bare_program c.args.defines.now)) c.args.scope.now c.args.stmts c.args.fresh.now c.in-None.ensures))
 
-pub nest_in-returns-in_default : goal.nest_in-returns-in_default
-nest_in-returns-in_default t c =
-    let none = nowhere (program_defines (bare_program c.args.defines.now)) c.args.stmt c.args.fresh.now c.in_default.not-For c.in_default.not-Block c.in_default.not-Omp in
-    record { tree = c.no_code-in_default.ensures ∙ sym (ap (λ m. m.tree) none); left = sym (ap (λ m. m.left) none) }
+pub nest_in-returns-in_default-clause-tree : goal.nest_in-returns-in_default-clause-tree
+nest_in-returns-in_default-clause-tree t c =
+    c.no_code.ensures
+    ∙ sym (ap (λ m. m.tree) (nowhere (program_defines (bare_program c.args.defines.now)) c.args.scope.now c.args.stmt c.args.fresh.now c.in_default.not-For c.in_default.not-Block c.in_default.not-Omp))
+
+pub nest_in-returns-in_default-clause-left : goal.nest_in-returns-in_default-clause-left
+nest_in-returns-in_default-clause-left t c =
+    sym (ap (λ m. m.left) (nowhere (program_defines (bare_program c.args.defines.now)) c.args.scope.now c.args.stmt c.args.fresh.now c.in_default.not-For c.in_default.not-Block c.in_default.not-Omp))
+
+pub carried_all-returns-clause-scope : goal.carried_all-returns-clause-scope
+carried_all-returns-clause-scope t c =
+    c.keep.ensures ∙ out_of_list (bare_stmts c.each.yielded) c.args.scope.now c.each.scope c.len-len.result c.each.invariant.scope c.len-len.ensures

@@ -2,13 +2,15 @@ use Rattle.std.proofs.Common.{◌≡◌, ◌++◌}
 use Rattle.std.specs.Vec.Iter.{into_iter_items}
 use Rattle.c_tree.specs.BareOf.{bare_program, bare_stmts}
 use Rattle.canonical_nests.specs.Canonical.{program_defines}
-use Rattle.apply_rewrite.specs.CarriedOut.{carried_all}
+use Rattle.carried_out.specs.CarriedOut.{carried_all}
+use Rattle.apply_rewrite.proofs.Scopes.{all_after}
 use Rattle.apply_rewrite.proofs.carrying.+carrying.Given as goal
 
--- What was carried out so far, and the statements that are left.
+-- What was carried out so far, what is visible after it, and the statements that are left.
 abbrev pub invariant-carried_all-each : goal.invariant-carried_all-each
 invariant-carried_all-each l = record {
   whole : l.fn.stmts ≡ l.yielded ++ into_iter_items l.stmt-iterator;
-  tree : bare_stmts l.done ≡ (carried_all (program_defines (bare_program l.defines)) (bare_stmts l.yielded) l.initial.fresh).tree;
-  left : l.fresh ≡ (carried_all (program_defines (bare_program l.defines)) (bare_stmts l.yielded) l.initial.fresh).left;
+  scope : l.scope ≡ all_after (bare_stmts l.yielded) l.initial.scope;
+  tree : bare_stmts l.done ≡ (carried_all (program_defines (bare_program l.defines)) l.initial.scope (bare_stmts l.yielded) l.initial.fresh).tree;
+  left : l.fresh ≡ (carried_all (program_defines (bare_program l.defines)) l.initial.scope (bare_stmts l.yielded) l.initial.fresh).left;
 }

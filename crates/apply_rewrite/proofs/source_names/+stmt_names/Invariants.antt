@@ -1,6 +1,6 @@
 use Rattle.std.proofs.Common.{◌≡◌, ◌++◌, drop}
 use Rattle.c_tree.specs.BareOf.{bare_stmts}
-use Rattle.apply_rewrite.specs.SourceNames.{stmts_names}
+use Rattle.carried_out.specs.SourceNames.{stmts_names}
 use Rattle.apply_rewrite.proofs.source_names.+stmt_names.Given as goal
 
 -- What was gathered, and what is left.

@@ -1,6 +1,6 @@
 use Rattle.std.proofs.Common.{◌≡◌, ◌++◌, drop, map}
 use Rattle.c_tree.specs.BareOf.{bare_param}
-use Rattle.apply_rewrite.specs.SourceNames.{params_names}
+use Rattle.carried_out.specs.SourceNames.{params_names}
 use Rattle.apply_rewrite.proofs.source_names.params_names.Given as goal
 
 -- What was gathered, and what is left.

@@ -1,6 +1,6 @@
 use Rattle.std.proofs.Common.{◌≡◌, ◌++◌, drop, map}
 use Rattle.c_tree.specs.BareOf.{bare_top}
-use Rattle.apply_rewrite.specs.SourceNames.{program_names}
+use Rattle.carried_out.specs.SourceNames.{program_names}
 use Rattle.apply_rewrite.proofs.source_names.program_names.Given as goal
 
 -- What was gathered, and what is left.

@@ -3,7 +3,7 @@ use Rattle.std.proofs.Common.{◌∙◌, ap, map, min}
 use Rattle.c_tree.specs.BareOf.{bare_param, bare_stmts}
 use Rattle.c_semantics.specs.Structure.Skeleton.{params_frame}
 use Rattle.canonical_nests.specs.Weight.{stmts_weight}
-use Rattle.loop_weight.proofs.Functions.{only_params}
+use Rattle.loop_counts.proofs.Parameters.{only_params}
 use Rattle.loop_weight.proofs.weight.function_weight.Goals as goal
 
 pub returns-clause-weight : goal.returns-clause-weight

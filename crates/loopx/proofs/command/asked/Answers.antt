@@ -1,7 +1,6 @@
 -- The words of a list are those that were looked at, and no others.
-use Rattle.std.proofs.Common.{◌≡◌, ℕ, List, [], ◌∷◌, map, take, drop, length, ◌-◌, string_bytes, codes, subst, sym, ap, ◌∙◌, IfSome, IfNone}
+use Rattle.std.proofs.Common.{◌≡◌, [], ◌∷◌, map, take, drop, length, ◌-◌, string_bytes, codes, subst, sym, ap, ◌∙◌, IfSome}
 use Rattle.loopx.specs.Commands.{AsksFor}
-use Rattle.loopx.specs.Words.{AskForNothing}
 use Rattle.loopx.proofs.Numbers.{one_item, two_items}
 use Rattle.loopx.proofs.command.asked.Goals as goal
 

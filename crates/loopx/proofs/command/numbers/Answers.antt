@@ -1,5 +1,5 @@
 -- At the end no word is left.
-use Rattle.std.proofs.Common.{◌≡◌, ◌<◌, ℕ, List, [], ◌∷◌, length, map, string_bytes, subst, append-nil, arith}
+use Rattle.std.proofs.Common.{◌<◌, ℕ, List, [], ◌∷◌, length, map, string_bytes, subst, append-nil, arith}
 use Rattle.loopx.specs.Words.{AreNumbers}
 use Rattle.loopx.proofs.command.numbers.Goals as goal
 

@@ -1,6 +1,6 @@
 -- The words of a run, and those that ask for none.
-use Rattle.std.proofs.Common.{◌≡◌, ℕ, List, [], ◌∷◌, codes}
-use Rattle.loopx.specs.Words.{IsBound, AllNumbers, Command, translate, run, Asks}
+use Rattle.std.proofs.Common.{◌≡◌, ℕ, List, ◌∷◌, codes}
+use Rattle.loopx.specs.Words.{AllNumbers, Command, translate, run, Asks}
 use Rattle.loopx.proofs.Numbers.{all_of_numbers}
 use Rattle.loopx.proofs.command.run_command.Goals as goal
 

@@ -1,6 +1,5 @@
 -- The numbers that the words spell are the input.
-use Rattle.std.proofs.Common.{◌≡◌, ℕ, ℤ, List, map, subst, sym, ◌∙◌, ap}
-use Rattle.std.specs.Prelude.{string_bytes}
+use Rattle.std.proofs.Common.{◌≡◌, subst, ◌∙◌}
 use Rattle.outside_io.specs.Bytes.{Gains, GainsPrefix}
 use Rattle.c_tree.specs.BareOf.{bare_program}
 use Rattle.c_semantics.specs.Meaning.Programs.{outcome}

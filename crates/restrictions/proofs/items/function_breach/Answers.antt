@@ -5,7 +5,7 @@ use Rattle.c_tree.specs.PlacedOf.{placed_stmts}
 use Rattle.c_semantics.specs.Structure.Skeleton.{params_frame}
 use Rattle.canonical_nests.specs.LoopRules.BreachSets.{least}
 use Rattle.canonical_nests.specs.LoopRules.Programs.{stmts_breaches}
-use Rattle.restrictions.proofs.Parameters.{only_params}
+use Rattle.loop_counts.proofs.Parameters.{only_params}
 use Rattle.restrictions.proofs.items.function_breach.Goals as goal
 
 pub returns-clause-breach : goal.returns-clause-breach

@@ -3,7 +3,7 @@ use Rattle.std.proofs.Common.{◌≡◌, ◌∙◌, sym, ap, ◌<◌, length, So
 use Rattle.c_semantics.specs.Meaning.State.{find}
 use Rattle.resolved_names.specs.Numbered.{number_name}
 use Rattle.c_meaning.specs.FileVariables.{first_of}
-use Rattle.c_meaning.proofs.FileVariables.{first_within, first_found, none_found}
+use Rattle.c_meaning.proofs.Variables.{first_within, found, missing}
 use Rattle.c_meaning.proofs.file_variables.FileVariables.look.Goals as goal
 
 pub index-requires : goal.index-requires
@@ -19,11 +19,11 @@ returns-in-Some c =
     let x = number_name c.args.name in
     let vs = c.self.inside.variables.items in
     let is : first_of x vs ≡ Some c.in-Some.place = sym (c.in-Some.ensures ∙ c.self.invariant c.args.name) in
-    sym (first_found x vs c.in-Some.place is c.index.result.now c.index.ensures) ∙ ap (find x) c.self.view_is
+    sym (found x vs c.in-Some.place is c.index.result.now c.index.ensures) ∙ ap (find x) c.self.view_is
 
 pub returns-in-None : goal.returns-in-None
 returns-in-None c =
     let x = number_name c.args.name in
     let vs = c.self.inside.variables.items in
     let is : first_of x vs ≡ None = sym (c.in-None.ensures ∙ c.self.invariant c.args.name) in
-    sym (none_found x vs is) ∙ ap (find x) c.self.view_is
+    sym (missing x vs is) ∙ ap (find x) c.self.view_is

@@ -5,8 +5,8 @@ use Rattle.c_semantics.specs.Meaning.State.{Var, find, write}
 use Rattle.c_semantics.specs.Meaning.SimpleStatements.{changed}
 use Rattle.resolved_names.specs.Numbered.{number_name}
 use Rattle.c_meaning.specs.FileVariables.{first_of}
-use Rattle.c_meaning.proofs.FileVariables.{first_within, first_written, none_written, tells_set}
-use Rattle.c_meaning.proofs.Variables.{with_number}
+use Rattle.c_meaning.proofs.FileVariables.{tells_set}
+use Rattle.c_meaning.proofs.Variables.{first_within, number_written, no_number_written, with_number}
 use Rattle.c_meaning.proofs.file_variables.FileVariables.set.Goals as goal
 
 pub index_mut-requires : goal.index_mut-requires
@@ -30,7 +30,7 @@ returns-in-Some c =
     let v = c.index_mut.result.now in
     let is : first_of x vs ≡ Some i = sym (c.in-Some.ensures ∙ c.self.invariant c.args.name) in
     ap (λ (u : Var). set vs i u) (c.set.ensures ∙ ap (λ (z : ℤ). with_number v c.args.at z) (to_z-of_z w64 c.args.number c.ranges.number))
-    ∙ (first_written x vs i is v c.index_mut.ensures.value c.args.at c.args.number
+    ∙ (number_written x vs c.args.at c.args.number i is v c.index_mut.ensures.value
     ∙ ap (λ (us : List Var). write x (changed (find x us) c.args.at c.args.number) us) c.self.view_is)
 
 pub returns-in-None : goal.returns-in-None
@@ -39,4 +39,4 @@ returns-in-None c =
     let vs = c.self.inside.variables.items in
     let same = λ (us : List Var). write x (changed (find x us) c.args.at c.args.number) us in
     let is : first_of x vs ≡ None = sym (c.in-None.ensures ∙ c.self.invariant c.args.name) in
-    sym c.self.view_is ∙ (none_written x vs is c.args.at c.args.number ∙ ap same c.self.view_is)
+    sym c.self.view_is ∙ (no_number_written x vs c.args.at c.args.number is ∙ ap same c.self.view_is)

@@ -1,0 +1,4 @@
+pub mod HeadHeights
+pub mod GenHeights
+pub mod Walk
+pub mod Admitted

@@ -1,0 +1,12 @@
+pub mod Fresh
+pub mod Scopes
+pub mod Uses
+pub mod Declares
+pub mod Generated
+pub mod Heads
+pub mod Walk
+pub mod Declared
+pub mod SourceNames
+pub mod Items
+pub mod BoundReads
+pub mod Rules

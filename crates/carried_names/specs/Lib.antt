@@ -1,0 +1,2 @@
+pub mod BoundsApart
+pub mod Laws

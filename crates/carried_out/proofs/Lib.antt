@@ -1,0 +1,4 @@
+pub mod SpentNames
+pub mod KnownNames
+pub mod FromZero
+pub mod LoopsAsked

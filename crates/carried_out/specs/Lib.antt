@@ -1,0 +1,5 @@
+pub mod SourceNames
+pub mod DistinctNames
+pub mod CarriedOut
+pub mod AllReverse
+pub mod Reversible

@@ -1,0 +1,6 @@
+-- By what its directives find.
+use Rattle.nest_counts.proofs.Admitted.{admitted_constructs_have_kinds}
+use Rattle.nest_counts.proofs.laws.admitted_constructs_have_kinds.Goals as goal
+
+pub returns : goal.returns
+returns c = admitted_constructs_have_kinds
