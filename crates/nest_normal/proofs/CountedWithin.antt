@@ -1,19 +1,19 @@
 -- A known count within outer loops: the nest stays steady and denotes the same.
-use Rattle.std.proofs.Common.{◌≡◌, refl, sym, ap, ◌∙◌, subst, ℕ, zero, suc, ◌+◌, ◌<◌, ◌^◌, List, [], ◌∷◌, ◌++◌, length, Result, Ok, Err, None, true, ℤ, arith}
-use Rattle.std.specs.Prelude.{map}
-use Rattle.std.proofs.lemmas.List.{length-map}
+use Rattle.std.proofs.Common.{◌≡◌, refl, sym, ap, ◌∙◌, subst, ℕ, zero, suc, ◌+◌, ◌<◌, ◌^◌, List, [], ◌∷◌, ◌++◌, Result, Ok, Err, None, true, ℤ, arith}
 use Rattle.c_tree.specs.Bare.{Name, Stmt, Stmts}
 use Rattle.c_tree.specs.declared.tree.Ty.{Ty}
 use Rattle.c_tree.specs.declared.arithmetic.Trap.{Trap}
 use Rattle.c_semantics.specs.Meaning.State.{Var, State}
 use Rattle.c_semantics.specs.Meaning.SimpleStatements.{Env}
-use Rattle.c_semantics.specs.Loops.IterationTrees.{Tree, body, do_all, loop, Trees, no_trees, more_trees, to_list, children, nth, put, put_all}
+use Rattle.c_semantics.specs.Loops.IterationTrees.{Tree, put}
 use Rattle.c_semantics.specs.Loops.Execution.{Body}
 use Rattle.loop_normal.specs.Frames.{AgreesBut}
 use Rattle.loop_normal.specs.Gens.{GenLoop, gen_loop, Nest, Seq, Looped}
 use Rattle.loop_normal.specs.Templates.{ll}
 use Rattle.loop_normal.specs.Denotes.{Calm, Value, PartMeans, LetsApart}
 use Rattle.loop_normal.proofs.FreshFrames.{value_num}
+use Rattle.nest_counts.specs.HasKinds.{turns}
+use Rattle.nest_counts.proofs.Source.{each_put, put_turns}
 use Rattle.nest_normal.specs.NestTexts.{declare_in, counted_to, at_loop, zero_at}
 use Rattle.nest_normal.specs.OuterVariables.{Outer, declaration_of, declared, puts}
 use Rattle.nest_normal.specs.NestDenotes.{IsSteady, NestMeans}
@@ -22,29 +22,8 @@ use Rattle.nest_normal.proofs.KnownCount.{zero_value, counted_means, lets_kept}
 
 -- ---- values before the values of the bodies
 
-put_list : (z : ℤ) (ts : Trees) → to_list (put_all z ts) ≡ map (put z) (to_list ts)
-put_list z no_trees = refl
-put_list z (more_trees t ts) = ap (λ l. put z t ∷ l) (put_list z ts)
-
-put_children : (z : ℤ) (t : Tree) → children (put z t) ≡ map (put z) (children t)
-put_children z (body b vs) = refl
-put_children z (do_all ts) = put_list z ts
-put_children z (loop ts) = put_list z ts
-
-put_length : (z : ℤ) (t : Tree) → length (children (put z t)) ≡ length (children t)
-put_length z t = ap length (put_children z t) ∙ length-map (children t) (put z)
-
-nth_map : (z : ℤ) (i : ℕ) (ts : List Tree) → i < length ts → nth i (map (put z) ts) ≡ put z (nth i ts)
-nth_map z i [] h = absurd (omega (arith, h))
-nth_map z zero (t ∷ ts) h = refl
-nth_map z (suc i) (t ∷ ts) h = nth_map z i ts (omega (arith, h))
-
 turns_put : (d k : ℕ) (z : ℤ) (t : Tree) → Turns d k t → Turns d k (put z t)
-turns_put zero k z t h = put_length z t ∙ h
-turns_put (suc d) k z t h = λ i l.
-    let below : i < length (children t) = omega (arith, l, put_length z t) in
-    let one : put z (nth i (children t)) ≡ nth i (children (put z t)) = sym (ap (nth i) (put_children z t) ∙ nth_map z i (children t) below) in
-    subst (Turns d k) one (turns_put d k z (nth i (children t)) (h i below))
+turns_put d k z t h = each_put (λ u. turns u ≡ k) z d t (λ u e. put_turns z u ∙ e) h
 
 turns_puts : (d k : ℕ) (zs : List ℤ) (t : Tree) → Turns d k t → Turns d k (puts zs t)
 turns_puts d k [] t h = h

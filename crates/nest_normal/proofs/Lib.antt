@@ -8,3 +8,5 @@ pub mod KnownCount
 pub mod CountedWithin
 pub mod HiddenNames
 pub mod Shown
+pub mod Lists
+pub mod Depths

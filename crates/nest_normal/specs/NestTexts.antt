@@ -42,10 +42,14 @@ abbrev mutual
   declare_below d (Nest l) = Nest (declare_in d l)
   declare_below d (Seq ps) = Seq (put_visible d ps)
 
--- a loop round a nest: its variable is declared below the innermost loop, before the variables of the nest; a variable
--- that one of these hides isn't declared
+-- a loop round a nest, by its counter, its count and the declaration of its variable
+abbrev pub counted_round : Name → Name → Stmt → GenLoop → GenLoop
+counted_round c k d l = gen_loop no_stmts c (ll 0) (read k) (Nest (declare_in d l))
+
+-- the variable is declared below the innermost loop, before the variables of the nest; a variable that one of these hides
+-- isn't declared
 abbrev pub loop_round : LoopNames → SourceLoop → GenLoop → GenLoop
-loop_round m h l = gen_loop no_stmts m.counter (ll 0) (read m.count) (Nest (declare_in (source_var m h) l))
+loop_round m h = counted_round m.counter m.count (source_var m h)
 
 -- the list below the innermost loop of the nest declares the name
 abbrev mutual
