@@ -10,3 +10,4 @@ pub mod HiddenNames
 pub mod Shown
 pub mod Lists
 pub mod Depths
+pub mod SpelledWalks

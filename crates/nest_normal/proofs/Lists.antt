@@ -1,9 +1,11 @@
--- What joined lists declare.
-use Rattle.std.proofs.Common.{◌≡◌, refl, sym, ap, ◌∙◌, ℕ, suc, ◌-◌, ◌≤◌, List, [], ◌∷◌, length, take, drop, slice_index_or, Bool, true, false, arith}
-use Rattle.std.proofs.Math.Seq.{take-length}
+-- What lists declare: statement by statement, and part by part.
+use Rattle.std.proofs.Common.{◌≡◌, refl, ap, ◌∙◌, ℕ, ◌+◌, ◌<◌, ◌≤◌, List, length, drop, slice_index_or, Bool, true, false}
 use Rattle.std.specs.Prelude.{if◌then◌else◌}
 use Rattle.c_tree.specs.Bare.{Name, Expr, Stmts, no_stmts, more_stmts}
-use Rattle.loop_normal.specs.Gens.{gen_loop, Inner, Part, Parts, more_parts, join, loop_stmts, inner_stmts, counter_loop, part_stmts, parts_stmts}
+use Rattle.c_tree.specs.BareOf.{bare_stmt, bare_stmts}
+use Rattle.c_tree.specs.declared.tree.Stmt.{Stmt}
+use Rattle.c_tree.proofs.Walks.{rest_more, rest_none}
+use Rattle.loop_normal.specs.Gens.{gen_loop, Inner, join, loop_stmts, inner_stmts, counter_loop, part_stmts, parts_stmts}
 use Rattle.loop_normal.specs.GenOf.{bare_part, bare_parts}
 use Rattle.loop_normal.specs.declared.generated.GenPart.{GenPart}
 use Rattle.nest_normal.specs.NestTexts.{declares_name, declares}
@@ -21,18 +23,18 @@ declares_join x (more_stmts a as') b = by (declares_name x a) (declares_join x a
 pub declares_loop : (x : Name) (ls : Stmts) (c : Name) (a b : Expr) (inner : Inner) → declares x (loop_stmts (gen_loop ls c a b inner)) ≡ declares x ls
 declares_loop x ls c a b inner = declares_join x ls (more_stmts (counter_loop c a b (inner_stmts inner)) no_stmts) ∙ or_false (declares x ls)
 
-pub declares_here : (x : Name) (p : Part) (ps : Parts) → declares x (part_stmts p) ≡ true → declares x (parts_stmts (more_parts p ps)) ≡ true
-declares_here x p ps e = declares_join x (part_stmts p) (parts_stmts ps) ∙ ap (λ t. if t then true else declares x (parts_stmts ps)) e
+pub stmts_more : (x : Name) (xs : List Stmt) (i : ℕ) (a : Stmt) → i < length xs → a ≡ slice_index_or xs i a → declares x (bare_stmts (drop i xs)) ≡ if declares_name x (bare_stmt a) then true else declares x (bare_stmts (drop (i + 1) xs))
+stmts_more x xs i = rest_more (λ ys. declares x (bare_stmts ys)) xs i
 
-declares_later : (x : Name) (p : Part) (ps : Parts) → declares x (part_stmts p) ≡ false → declares x (parts_stmts (more_parts p ps)) ≡ declares x (parts_stmts ps)
-declares_later x p ps e = declares_join x (part_stmts p) (parts_stmts ps) ∙ ap (λ t. if t then true else declares x (parts_stmts ps)) e
+pub stmts_end : (x : Name) (xs : List Stmt) (i : ℕ) → length xs ≤ i → declares x (bare_stmts (drop i xs)) ≡ false
+stmts_end x xs i = rest_none (λ ys. declares x (bare_stmts ys)) xs i
 
-pub declares_rest : (x : Name) (ps : List GenPart) (p : GenPart) → 1 ≤ length ps → p ≡ slice_index_or ps 0 p → declares x (part_stmts (bare_part p)) ≡ false →
-    declares x (parts_stmts (bare_parts (take (length ps - 1) (drop 1 ps)))) ≡ declares x (parts_stmts (bare_parts ps))
-declares_rest x [] p some is none = absurd (omega (arith, some))
-declares_rest x (q ∷ ps) p some is none =
-    let long : suc (length ps) - 1 ≡ length ps = omega arith in
-    let rest : take (suc (length ps) - 1) ps ≡ ps = rw long (take-length ps) in
-    ap (λ l. declares x (parts_stmts (bare_parts l))) rest ∙ sym (declares_later x (bare_part q) (bare_parts ps) (ap (λ y. declares x (part_stmts (bare_part y))) (sym is) ∙ none))
+pub parts_more : (x : Name) (xs : List GenPart) (i : ℕ) (p : GenPart) → i < length xs → p ≡ slice_index_or xs i p →
+    declares x (parts_stmts (bare_parts (drop i xs))) ≡ if declares x (part_stmts (bare_part p)) then true else declares x (parts_stmts (bare_parts (drop (i + 1) xs)))
+parts_more x xs i p within is =
+    rest_more (λ ys. declares x (parts_stmts (bare_parts ys))) xs i p within is ∙ declares_join x (part_stmts (bare_part p)) (parts_stmts (bare_parts (drop (i + 1) xs)))
 
-pub ruleset declaring = (declares_here)
+pub parts_end : (x : Name) (xs : List GenPart) (i : ℕ) → length xs ≤ i → declares x (parts_stmts (bare_parts (drop i xs))) ≡ false
+parts_end x xs i = rest_none (λ ys. declares x (parts_stmts (bare_parts ys))) xs i
+
+pub ruleset declaring = (stmts_more, stmts_end, parts_more, parts_end)

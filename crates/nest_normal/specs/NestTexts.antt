@@ -4,6 +4,7 @@ use Rattle.c_tree.specs.Bare.{Name, read, Stmt, decl, block, Stmts, no_stmts, mo
 use Rattle.loop_normal.specs.DrawnNames.{FreshNames, drawn, after_draw}
 use Rattle.loop_normal.specs.Gens.{GenLoop, gen_loop, Inner, Nest, Seq, Looped, Plain, Parts, no_parts, more_parts, Gen, parts_stmts}
 use Rattle.loop_normal.specs.Templates.{ll, only, LoopNames, SourceLoop, source_front, source_var, fixed, is_zero_literal, on_first}
+use Rattle.nest_normal.specs.Spelled.{without_unread}
 
 -- a front and one nest
 abbrev pub nest_of : Stmts → GenLoop → Gen
@@ -94,6 +95,9 @@ new_counter f d g = if zero_in d g.parts then None else Some (drawn f)
 abbrev pub after_counter : FreshNames → ℕ → Gen → FreshNames
 after_counter f d g = if zero_in d g.parts then f else after_draw f
 
--- the loop that is d loops down has the known count
+-- the loop that is d loops down has the known count, and declarations that nothing reads any more are dropped
+abbrev pub known_at : ℕ → ℕ → Option Name → GenLoop → GenLoop
+known_at d k r l = without_unread (at_loop d (counted_to k r) l)
+
 abbrev pub with_count : ℕ → ℕ → Option Name → Gen → Gen
-with_count d k r g = record { front = g.front; parts = on_first (at_loop d (counted_to k r)) g.parts }
+with_count d k r g = record { front = g.front; parts = on_first (known_at d k r) g.parts }

@@ -5,6 +5,7 @@ ghost use Rattle.loop_normal.specs.GenOf.{bare_gen, bare_loop, bare_parts};
 ghost use Rattle.loop_normal.specs.Templates.{fixed, on_first};
 ghost use Rattle.nest_normal.specs.NestTexts as t;
 
+use crate::unread::without_unread;
 use c_tree::boxed::Boxed;
 use c_tree::name::Name;
 use c_tree::tree::{BinOp, Ty};
@@ -138,14 +139,28 @@ fn counted_at(
     }
 }
 
-fn counted_first(
+/// The same, without the declarations that nothing reads any more.
+fn known_at(
+    alloc: Global,
+    looped: GenLoop,
+    depth: usize,
+    count: u64,
+    counter: Option<Name>,
+) -> Result<GenLoop, AllocError>
+    ensures { IfOk result (λ answer. bare_loop answer ≡ t.known_at depth count counter (bare_loop looped)) }
+{
+    let looped = counted_at(alloc, looped, depth, count, counter)?;
+    without_unread(alloc, looped)
+}
+
+fn first_known(
     alloc: Global,
     parts: PartList,
     depth: usize,
     count: u64,
     counter: Option<Name>,
 ) -> Result<PartList, AllocError>
-    ensures { IfOk result (λ answer. bare_parts answer ≡ on_first (t.at_loop depth (t.counted_to count counter)) (bare_parts parts)) }
+    ensures { IfOk result (λ answer. bare_parts answer ≡ on_first (t.known_at depth count counter) (bare_parts parts)) }
 {
     let (first, rest) = match split_first(parts) {
         None => return Ok(no_parts(alloc)),
@@ -153,7 +168,7 @@ fn counted_first(
     };
     match first {
         GenPart::Loop(looped) => {
-            let looped = counted_at(alloc, looped.into_inner(), depth, count, counter)?;
+            let looped = known_at(alloc, looped.into_inner(), depth, count, counter)?;
             part_before(GenPart::Loop(Boxed::new(alloc, looped)?), rest)
         }
         GenPart::Plain(list) => part_before(GenPart::Plain(list), rest),
@@ -175,10 +190,10 @@ fn new_counter(nest: &Gen, depth: usize, fresh: &mut Fresh) -> Result<Option<Nam
 /// The nest with a loop of it running to the literal `count`: the loop that stands within `depth` loops of the nest (OpenMP
 /// 6.0, 6.4.1: the logical iterations of a loop are counted from 0). Where that loop begins at the literal 0, its end is
 /// replaced. Else one name is drawn, for a new counter from 0, and below it the old counter is declared, as what it began at
-/// and the new one. Bodies are moved.
+/// and the new one. Declarations before loops of the nest that nothing reads any more are dropped. Bodies are moved.
 ///
 /// The answer does the same where the nest is the first part, and the loop always has that many turns; where there is no
-/// such loop, it is what was given.
+/// such loop, no end is replaced.
 ///
 /// At want of memory the nest is dropped. Then either no name was drawn, or just the one for the new counter.
 pub fn fix_count(
@@ -194,6 +209,6 @@ pub fn fix_count(
 {
     let counter = new_counter(&nest, depth, fresh)?;
     let Gen { front, parts } = nest;
-    let parts = counted_first(alloc, parts, depth, count, counter)?;
+    let parts = first_known(alloc, parts, depth, count, counter)?;
     Ok(Gen { front, parts })
 }

@@ -6,4 +6,6 @@ pub mod laws;
 pub mod round;
 #[cfg(test)]
 mod tests;
+mod spelled;
+mod unread;
 mod variables;

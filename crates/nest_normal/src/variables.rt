@@ -23,14 +23,14 @@ fn declares_name(stmt: &Stmt, name: &Name) -> bool
 }
 
 /// Whether the list declares the name, not only in a block of it.
-fn declares(mut stmts: &[Stmt], name: &Name) -> bool
-    ensures { result ≡ t.declares name.now (bare_stmts stmts.entry.now) }
+#[tactic(auto, using(crate::proofs::Lists::declaring))]
+fn declares(stmts: &[Stmt], name: &Name) -> bool
+    ensures { result ≡ t.declares name.now (bare_stmts stmts.now) }
 {
-    while let [stmt, rest @ ..] = stmts {
+    'each: for stmt in stmts {
         if declares_name(stmt, name) {
             return true;
         }
-        stmts = rest;
     }
     false
 }
@@ -45,14 +45,13 @@ fn part_declares(part: &GenPart, name: &Name) -> bool
 }
 
 #[tactic(auto, using(crate::proofs::Lists::declaring))]
-fn parts_declare(mut parts: &[GenPart], name: &Name) -> bool
-    ensures { result ≡ t.declares name.now (parts_stmts (bare_parts parts.entry.now)) }
+fn parts_declare(parts: &[GenPart], name: &Name) -> bool
+    ensures { result ≡ t.declares name.now (parts_stmts (bare_parts parts.now)) }
 {
-    while let [part, rest @ ..] = parts {
+    'each: for part in parts {
         if part_declares(part, name) {
             return true;
         }
-        parts = rest;
     }
     false
 }
