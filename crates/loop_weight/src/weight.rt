@@ -22,11 +22,11 @@ use std::alloc::{AllocError, Global};
 
 /// The weight of a function's body, where no variable but those of the file is visible round it.
 #[tactic(auto, using(loop_counts::proofs::Parameters::functions))]
-fn function_weight<'p>(
+fn function_weight(
     alloc: Global,
-    params: &'p [Param],
-    body: &'p [Stmt],
-    scope: &mut Scope<'p>,
+    params: &[Param],
+    body: &[Stmt],
+    scope: &mut Scope,
 ) -> Result<u64, AllocError>
     requires body { WellFormedStmts (bare_stmts body.now) }
     requires outside { scope.old.state.frame ≡ [] }
@@ -41,7 +41,7 @@ fn function_weight<'p>(
 
 /// The weight of an item, up to the cap.
 #[tactic(auto, using(crate::proofs::Caps::sums))]
-fn item_weight<'p>(alloc: Global, item: &'p Item, scope: &mut Scope<'p>) -> Result<u64, AllocError>
+fn item_weight(alloc: Global, item: &Item, scope: &mut Scope) -> Result<u64, AllocError>
     requires well_formed { WellFormedTop (bare_top item.now) }
     requires outside { scope.old.state.frame ≡ [] }
     ensures weight { IfOk result (λ n. n ≡ capped_weight (weight.top_weight scope.old.defines scope.old.state (bare_top item.now))) }

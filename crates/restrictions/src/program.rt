@@ -20,11 +20,11 @@ use std::alloc::{AllocError, Global};
 
 /// Makes known what a function reads and assigns, where this is visible before it. Other items leave all as it was.
 #[tactic(auto, using(crate::proofs::Accesses::added))]
-fn add_function<'p>(
+fn add_function(
     alloc: Global,
-    item: &'p Item,
+    item: &Item,
     functions: &mut Functions,
-    scope: &Scope<'p>,
+    scope: &Scope,
 ) -> Result<(), AllocError>
     requires { WellFormedTop (bare_top item.now) }
     ensures { OnOk result (Alike (files.accesses_with scope.now.defines functions.old (bare_top item.now)) functions.new) }
