@@ -493,10 +493,10 @@ fn enter_params<'p>(names: &mut NameStack<'p>, params: &'p [Param]) -> Result<()
 }
 
 /// What a call of a function reads and assigns, where these functions are known and this is visible.
-pub fn function_access(
+pub fn function_access<'p>(
     alloc: Global,
-    params: &[Param],
-    body: &[Stmt],
+    params: &'p [Param],
+    body: &'p [Stmt],
     functions: &Functions,
     scope: &Scope,
 ) -> Result<Touched, AllocError>
