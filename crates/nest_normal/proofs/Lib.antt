@@ -4,6 +4,9 @@ pub mod Innermost
 pub mod Outer
 pub mod RoundNests
 pub mod Nests
+pub mod SpelledNames
+pub mod WithoutVariable
+pub mod Unread
 pub mod KnownCount
 pub mod CountedWithin
 pub mod HiddenNames

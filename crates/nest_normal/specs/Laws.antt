@@ -18,7 +18,7 @@ use Rattle.loop_normal.specs.Templates.{LoopNames, SourceLoop, source_front, lea
 use Rattle.loop_normal.specs.Denotes.{Calm, LoopMeans, GenMeans, Undeclared}
 use Rattle.loop_normal.specs.FreshNames.{Among, Source, NamesNone, AreApart, Apart}
 use Rattle.loop_normal.specs.Laws.{source_loop}
-use Rattle.nest_normal.specs.NestTexts.{nest_of, innermost, hides, loop_round, nest_round, at_loop, counted_to, zero_at, with_count}
+use Rattle.nest_normal.specs.NestTexts.{nest_of, innermost, hides, loop_round, nest_round, at_loop, counted_to, known_at, zero_at, with_count}
 use Rattle.nest_normal.specs.NestDenotes.{HasNone, NestMeans}
 use Rattle.nest_normal.specs.KnownCounts.{Turns, AllTurns, IsCounterFor, UndeclaredIf}
 
@@ -77,7 +77,7 @@ NestDenotes =
 abbrev pub CountedNestDenotes : Type 0
 CountedNestDenotes =
     (n : ℕ) (env : Env) (bs : List Body) (names : List Name) → Calm bs → (d k : ℕ) (r : Option Name) (l : GenLoop) (p : List Var) (t : Tree) →
-    IsCounterFor (Among names) r d l p → k < 2 ^ 63 → Turns d k t → LoopMeans n env bs (Among names) l p t → LoopMeans n env bs (Among names) (at_loop d (counted_to k r) l) p t
+    IsCounterFor (Among names) r d l p → k < 2 ^ 63 → Turns d k t → LoopMeans n env bs (Among names) l p t → LoopMeans n env bs (Among names) (known_at d k r l) p t
 
 -- so does a Gen of one nest
 abbrev pub CountedDenotes : Type 0

@@ -73,16 +73,24 @@ counted_to k None (gen_loop ls c a b inner) = gen_loop ls c a (ll k) inner
 counted_to k (Some r) l = fixed k r l
 
 -- the loop that is d loops down is changed
-abbrev pub at_loop : ℕ → (GenLoop → GenLoop) → GenLoop → GenLoop
-at_loop zero f l = f l
-at_loop (suc d) f (gen_loop ls c a b (Nest l)) = gen_loop ls c a b (Nest (at_loop d f l))
-at_loop (suc d) f (gen_loop ls c a b (Seq ps)) = gen_loop ls c a b (Seq ps)
+abbrev mutual
+  pub at_loop : ℕ → (GenLoop → GenLoop) → GenLoop → GenLoop
+  at_loop zero f l = f l
+  at_loop (suc d) f (gen_loop ls c a b inner) = gen_loop ls c a b (at_below d f inner)
+
+  pub at_below : ℕ → (GenLoop → GenLoop) → Inner → Inner
+  at_below d f (Nest l) = Nest (at_loop d f l)
+  at_below d f (Seq ps) = Seq ps
 
 -- no loop is there, or one that begins at the literal 0
-abbrev pub zero_at : ℕ → GenLoop → Bool
-zero_at zero (gen_loop ls c a b inner) = is_zero_literal a
-zero_at (suc d) (gen_loop ls c a b (Nest l)) = zero_at d l
-zero_at (suc d) (gen_loop ls c a b (Seq ps)) = true
+abbrev mutual
+  pub zero_at : ℕ → GenLoop → Bool
+  zero_at zero (gen_loop ls c a b inner) = is_zero_literal a
+  zero_at (suc d) (gen_loop ls c a b inner) = zero_below d inner
+
+  pub zero_below : ℕ → Inner → Bool
+  zero_below d (Nest l) = zero_at d l
+  zero_below d (Seq ps) = true
 
 abbrev pub zero_in : ℕ → Parts → Bool
 zero_in d (more_parts (Looped l) ps) = zero_at d l

@@ -1,5 +1,5 @@
--- Whether code spells a variable's name: in a declaration, in an expression, or as what is assigned; and a nest without the
--- declarations that nothing reads.
+-- Whether code spells a name: in a declaration, in an expression, as what is assigned, or as what is called; and a nest
+-- without the declarations that nothing reads.
 use Rattle.std.specs.Prelude.{Option, Some, None, Bool, false, not, ◌||◌, bytes_eq, if◌then◌else◌}
 use Rattle.c_tree.specs.Bare.{Name, Expr, num, read, item, un, bin, cond, cast, Exprs, no_exprs, more_exprs, Target, target, Stmt, decl, set, step, print, input, if_, if_else, while_, do_, for_, block, break_, continue_, empty, omp, call, Stmts, no_stmts, more_stmts, Head, head, MaybeStmt, no_stmt, a_stmt}
 use Rattle.loop_normal.specs.Gens.{GenLoop, gen_loop, Inner, Nest, Seq, Part, Looped, Plain, Parts, no_parts, more_parts}
@@ -43,7 +43,7 @@ abbrev mutual
   in_stmt x continue_ = false
   in_stmt x empty = false
   in_stmt x (omp d a) = in_stmts x a
-  in_stmt x (call f es) = in_exprs x es
+  in_stmt x (call f es) = bytes_eq f x || in_exprs x es
 
   pub in_stmts : Name → Stmts → Bool
   in_stmts x no_stmts = false

@@ -1,7 +1,7 @@
 //! A loop of a nest with its known count as its end.
 
 ghost use Rattle.std.specs.Prelude.{◌≡◌, ◌⊎◌, IfOk, OnErr, OnOk};
-ghost use Rattle.loop_normal.specs.GenOf.{bare_gen, bare_loop, bare_parts};
+ghost use Rattle.loop_normal.specs.GenOf.{bare_body, bare_gen, bare_loop, bare_parts};
 ghost use Rattle.loop_normal.specs.Templates.{fixed, on_first};
 ghost use Rattle.nest_normal.specs.NestTexts as t;
 
@@ -17,14 +17,22 @@ use std::alloc::{AllocError, Global};
 
 /// Whether no loop is that many loops down, or one that begins at the literal 0.
 #[tactic(auto, using(crate::proofs::Depths::depths))]
+#[cycle(zero_at)]
 fn zero_at(looped: &GenLoop, depth: usize) -> bool
     ensures { result ≡ t.zero_at depth (bare_loop looped.now) }
 {
     if depth == 0 {
         return is_zero_literal(&looped.from);
     }
-    match &looped.inner {
-        GenBody::Nest(next) => zero_at(next.get(), depth - 1),
+    zero_below(&looped.inner, depth - 1)
+}
+
+#[cycle(zero_at)]
+fn zero_below(inner: &GenBody, depth: usize) -> bool
+    ensures { result ≡ t.zero_below depth (bare_body inner.now) }
+{
+    match inner {
+        GenBody::Nest(next) => zero_at(next.get(), depth),
         GenBody::Seq(_) => true,
     }
 }
@@ -99,6 +107,7 @@ fn counted_to(
 
 /// The loop that many loops down runs to the count.
 #[tactic(auto, using(crate::proofs::Depths::depths))]
+#[cycle(counted_at)]
 fn counted_at(
     alloc: Global,
     looped: GenLoop,
@@ -118,24 +127,32 @@ fn counted_at(
         to,
         inner,
     } = looped;
+    let inner = counted_below(alloc, inner, depth - 1, count, counter)?;
+    Ok(GenLoop {
+        lets,
+        counter: own,
+        from,
+        to,
+        inner,
+    })
+}
+
+#[cycle(counted_at)]
+fn counted_below(
+    alloc: Global,
+    inner: GenBody,
+    depth: usize,
+    count: u64,
+    counter: Option<Name>,
+) -> Result<GenBody, AllocError>
+    ensures { IfOk result (λ answer. bare_body answer ≡ t.at_below depth (t.counted_to count counter) (bare_body inner)) }
+{
     match inner {
         GenBody::Nest(next) => {
-            let next = counted_at(alloc, next.into_inner(), depth - 1, count, counter)?;
-            Ok(GenLoop {
-                lets,
-                counter: own,
-                from,
-                to,
-                inner: GenBody::Nest(Boxed::new(alloc, next)?),
-            })
+            let next = counted_at(alloc, next.into_inner(), depth, count, counter)?;
+            Ok(GenBody::Nest(Boxed::new(alloc, next)?))
         }
-        GenBody::Seq(parts) => Ok(GenLoop {
-            lets,
-            counter: own,
-            from,
-            to,
-            inner: GenBody::Seq(parts),
-        }),
+        GenBody::Seq(parts) => Ok(GenBody::Seq(parts)),
     }
 }
 

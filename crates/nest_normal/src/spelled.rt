@@ -1,4 +1,4 @@
-//! Whether code spells a variable's name.
+//! Whether code spells a name.
 
 ghost use Rattle.std.specs.Prelude.{◌≡◌};
 ghost use Rattle.std.specs.Option.{option_map};
@@ -83,7 +83,9 @@ fn in_stmt(name: &Name, stmt: &Stmt) -> bool
         Stmt::Block { body, .. } => in_stmts(name, body.as_slice()),
         Stmt::Omp { body, .. } => in_stmts(name, body.as_slice()),
         Stmt::Break { .. } | Stmt::Continue { .. } | Stmt::Empty { .. } => false,
-        Stmt::Call { args, .. } => in_exprs(name, args.as_slice()),
+        Stmt::Call {
+            name: other, args, ..
+        } => other == name || in_exprs(name, args.as_slice()),
     }
 }
 

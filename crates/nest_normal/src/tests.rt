@@ -8,7 +8,9 @@ use c_tree::tree::{BinOp, Expr, Stmt, Ty};
 use loop_normal::fresh::Fresh;
 use loop_normal::generated::{Gen, GenBody, GenLoop, GenPart};
 use loop_normal::normal::{OwnedLoop, normal_leaf};
-use loop_normal::pieces::{literal, no_parts, no_stmts, part_before, read};
+use loop_normal::pieces::{
+    declaration, literal, no_parts, no_stmts, part_before, read, stmt_before,
+};
 use std::alloc::{AllocError, Global};
 use std::test::Fail;
 
@@ -97,6 +99,14 @@ fn two_loops(alloc: Global, fresh: &mut Fresh) -> Result<Gen, AllocError> {
     normal_round(alloc, head(alloc, b"i", b"n")?, inner, fresh)
 }
 
+fn one_part(alloc: Global, looped: GenLoop) -> Result<Gen, AllocError> {
+    let parts = part_before(GenPart::Loop(Boxed::new(alloc, looped)?), no_parts(alloc))?;
+    Ok(Gen {
+        front: no_stmts(alloc),
+        parts,
+    })
+}
+
 /// A loop from 3 to 8 with the counter `c`.
 fn from_three(alloc: Global) -> Result<Gen, AllocError> {
     let looped = GenLoop {
@@ -106,11 +116,33 @@ fn from_three(alloc: Global) -> Result<Gen, AllocError> {
         to: literal(8),
         inner: GenBody::Seq(no_parts(alloc)),
     };
-    let parts = part_before(GenPart::Loop(Boxed::new(alloc, looped)?), no_parts(alloc))?;
-    Ok(Gen {
-        front: no_stmts(alloc),
-        parts,
-    })
+    one_part(alloc, looped)
+}
+
+/// `long long a = 8; long long b = a; long long d = 0;` before a loop from 0 to `b` with the counter `c`, round one from 0 to
+/// `d` with the counter `e`.
+fn behind_declarations(alloc: Global) -> Result<Gen, AllocError> {
+    let a = Name::new(alloc, b"a")?;
+    let b = Name::new(alloc, b"b")?;
+    let d = Name::new(alloc, b"d")?;
+    let inner = GenLoop {
+        lets: no_stmts(alloc),
+        counter: Name::new(alloc, b"e")?,
+        from: literal(0),
+        to: read(alloc, &d)?,
+        inner: GenBody::Seq(no_parts(alloc)),
+    };
+    let to = read(alloc, &b)?;
+    let last = stmt_before(declaration(Ty::Long, d, literal(0)), no_stmts(alloc))?;
+    let lets = stmt_before(declaration(Ty::Long, b, read(alloc, &a)?), last)?;
+    let looped = GenLoop {
+        lets: stmt_before(declaration(Ty::Long, a, literal(8)), lets)?,
+        counter: Name::new(alloc, b"c")?,
+        from: literal(0),
+        to,
+        inner: GenBody::Nest(Boxed::new(alloc, inner)?),
+    };
+    one_part(alloc, looped)
 }
 
 #[test]
@@ -143,5 +175,18 @@ fn fixes_the_count_of_a_loop(rt: HostRuntime) -> Result<(), Fail> {
     );
     let nest = fix_count(alloc, from_three(alloc)?, 0, 5, &mut fresh)?;
     assert_eq!(rt; show(alloc, &nest)?.as_str(), "omp_t8=0<5: c ");
+    Ok(())
+}
+
+#[test]
+fn drops_declarations_that_nothing_reads_any_more(rt: HostRuntime) -> Result<(), Fail> {
+    let alloc = rt.alloc();
+    let mut fresh = Fresh::beside(alloc, Vec::new(alloc))?;
+    let outer = fix_count(alloc, behind_declarations(alloc)?, 0, 8, &mut fresh)?;
+    assert_eq!(rt; show(alloc, &outer)?.as_str(), "d c=0<8: e=0<d: ");
+    let inner = fix_count(alloc, behind_declarations(alloc)?, 1, 0, &mut fresh)?;
+    assert_eq!(rt; show(alloc, &inner)?.as_str(), "a b c=0<b: e=0<0: ");
+    let both = fix_count(alloc, outer, 1, 0, &mut fresh)?;
+    assert_eq!(rt; show(alloc, &both)?.as_str(), "c=0<8: e=0<0: ");
     Ok(())
 }

@@ -10,7 +10,8 @@ use Rattle.loop_normal.specs.Gens.{GenLoop, gen_loop, Inner, Nest, Seq, Looped, 
 use Rattle.loop_normal.specs.Templates.{ll, only, put_let, LoopNames, SourceLoop, gap, strict_count, weak_count, count_by, is_up, signed_literal, value_expr, source_front, source_var, leaf, rebased, fixed, on_first, begins_at_zero}
 use Rattle.loop_normal.specs.DrawnNames.{FreshNames, drawn, after_draws}
 use Rattle.loop_normal.specs.FromZero.{from_zero}
-use Rattle.nest_normal.specs.NestTexts.{is_hidden, put_visible, declare_in, declare_below, loop_round, nest_round, counted_to, at_loop, with_count}
+use Rattle.nest_normal.specs.NestTexts.{is_hidden, put_visible, declare_in, declare_below, loop_round, nest_round, counted_to, at_loop, known_at, with_count}
+use Rattle.nest_normal.specs.Spelled.{is_unread, before, before_if_read, all_if_read, without_unread, below_without_unread}
 use Rattle.permute_reverse.specs.Reversed.{reversed, reversed_gen}
 use Rattle.template_laws.proofs.Lists.{IsEach, join_has, first_has, second_has, loop_has, has_loop}
 
@@ -81,8 +82,37 @@ module _ (N : Name → Type 0) (E : Expr → Type 0) (K : ℕ → Type 0) (P : S
       let k = has_loop N E K P w ls c a b (Nest l) h in
       loop_has N E K P w ls c a b (Nest (at_loop d f l)) (record { lets = k.lets; counter = k.counter; from = k.from; to = k.to; body = at_loop_kept d f kept l k.body })
 
-  pub count_kept : (d k : ℕ) (r : Option Name) → K k → HasIf N r → LoopKept (at_loop d (counted_to k r))
-  count_kept d k r small hr l h = at_loop_kept d (counted_to k r) (counted_kept k r small hr) l h
+  pub ended_kept : (d k : ℕ) (r : Option Name) → K k → HasIf N r → LoopKept (at_loop d (counted_to k r))
+  ended_kept d k r small hr l h = at_loop_kept d (counted_to k r) (counted_kept k r small hr) l h
+
+  -- ---- fewer declarations
+
+  before_has : (d : Stmt) (l : GenLoop) → P (only d) → P (loop_stmts l) → P (loop_stmts (before d l))
+  before_has d (gen_loop ls c a b inner) h k = w.more d _ h k
+
+  if_read_has : (d : Stmt) (l : GenLoop) → P (only d) → P (loop_stmts l) → P (loop_stmts (before_if_read d l))
+  if_read_has d l h k = by (is_unread d l)
+    where
+      by : (t : Bool) → P (loop_stmts (if t then l else before d l))
+      by true = k
+      by false = before_has d l h k
+
+  pub all_if_read_has : (ls : Stmts) (l : GenLoop) → P ls → P (loop_stmts l) → P (loop_stmts (all_if_read ls l))
+  all_if_read_has no_stmts l h k = k
+  all_if_read_has (more_stmts d ls) l h k = if_read_has d (all_if_read ls l) (w.first d ls h) (all_if_read_has ls l (w.rest d ls h) k)
+
+  mutual
+    pub unread_kept : LoopKept without_unread
+    unread_kept (gen_loop ls c a b inner) h =
+        let l = has_loop N E K P w ls c a b inner h in
+        all_if_read_has ls _ l.lets (loop_has N E K P w no_stmts c a b (below_without_unread inner) (record { lets = w.none; counter = l.counter; from = l.from; to = l.to; body = unread_below_kept inner l.body }))
+
+    pub unread_below_kept : (inner : Inner) → P (inner_stmts inner) → P (inner_stmts (below_without_unread inner))
+    unread_below_kept (Nest l) h = unread_kept l h
+    unread_below_kept (Seq ps) h = h
+
+  pub count_kept : (d k : ℕ) (r : Option Name) → K k → HasIf N r → LoopKept (known_at d k r)
+  count_kept d k r small hr l h = unread_kept (at_loop d (counted_to k r) l) (ended_kept d k r small hr l h)
 
   pub reversed_kept : (r : Name) → N r → LoopKept (reversed r)
   reversed_kept r hr (gen_loop ls c a b inner) h =
@@ -111,7 +141,7 @@ module _ (N : Name → Type 0) (E : Expr → Type 0) (K : ℕ → Type 0) (P : S
       by false = gen_kept (rebased (drawn f) (drawn (after_draws 1 f)) (drawn (after_draws 2 f))) (rebased_kept _ _ _ (names 0) (names 1) (names 2)) g h
 
   pub with_count_kept : (d k : ℕ) (r : Option Name) → K k → HasIf N r → (g : Gen) → P (emit g) → P (emit (with_count d k r g))
-  with_count_kept d k r small hr g h = gen_kept (at_loop d (counted_to k r)) (count_kept d k r small hr) g h
+  with_count_kept d k r small hr g h = gen_kept (known_at d k r) (count_kept d k r small hr) g h
 
   pub reverse_kept : (r : Name) (f : FreshNames) → N r → ((k : ℕ) → N (drawn (after_draws k f))) → (g : Gen) → P (emit g) → P (emit (reversed_gen r (from_zero f g)))
   reverse_kept r f hr names g h = gen_kept (reversed r) (reversed_kept r hr) (from_zero f g) (from_zero_kept f names g h)

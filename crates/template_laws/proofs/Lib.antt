@@ -11,5 +11,6 @@ pub mod Seen
 pub mod NamesMore
 pub mod LoopNames
 pub mod Changed
+pub mod Unread
 pub mod NoBreaches
 pub mod NormalNames

@@ -11,7 +11,8 @@ use Rattle.loop_normal.specs.DrawnNames.{FreshNames, drawn, after_draws}
 use Rattle.loop_normal.specs.Gens.{GenLoop, gen_loop, Inner, Nest, Seq, Looped, Plain, Parts, no_parts, more_parts, Gen, join, let_stmt, loop_stmts, inner_stmts, parts_stmts}
 use Rattle.loop_normal.specs.Templates.{ll, only, put_let, LoopNames, SourceLoop, count_by, is_up, signed_literal, value_expr, source_front, source_var, leaf, rebased, fixed, on_first, begins_at_zero}
 use Rattle.loop_normal.specs.FromZero.{from_zero}
-use Rattle.nest_normal.specs.NestTexts.{innermost, put_visible, is_hidden, declare_in, declare_below, loop_round, nest_round, counted_to, at_loop, with_count}
+use Rattle.nest_normal.specs.NestTexts.{innermost, put_visible, is_hidden, declare_in, declare_below, loop_round, nest_round, counted_to, at_loop, known_at, with_count}
+use Rattle.nest_normal.specs.Spelled.{is_unread, before, before_if_read, all_if_read, without_unread, below_without_unread}
 use Rattle.permute_reverse.specs.Reversed.{reversed, reversed_gen}
 use Rattle.template_laws.specs.Heights.{height, front_height, counter_height}
 
@@ -130,6 +131,38 @@ at_loop_adds n (suc d) f adds k (gen_loop ls c a b (Nest l)) h =
     let i = at_loop_adds n d f adds (k - 1) l (omega arith) in
     loop_low (n + k) ls c a b (Nest (at_loop d f l)) (record { lets = omega arith; from = omega arith; to = omega arith; body = omega arith })
 
+-- ---- fewer declarations
+
+before_low : (k : ℕ) (d : Stmt) (l : GenLoop) → stmt_height d ≤ k → stmts_height (loop_stmts l) ≤ k → stmts_height (loop_stmts (before d l)) ≤ k
+before_low k d (gen_loop ls c a b inner) h m = max-le h m
+
+if_read_low : (k : ℕ) (d : Stmt) (l : GenLoop) → stmt_height d ≤ k → stmts_height (loop_stmts l) ≤ k → stmts_height (loop_stmts (before_if_read d l)) ≤ k
+if_read_low k d l h m = by (is_unread d l)
+  where
+    by : (t : Bool) → stmts_height (loop_stmts (if t then l else before d l)) ≤ k
+    by true = m
+    by false = before_low k d l h m
+
+all_if_read_low : (k : ℕ) (ls : Stmts) (l : GenLoop) → stmts_height ls ≤ k → stmts_height (loop_stmts l) ≤ k → stmts_height (loop_stmts (all_if_read ls l)) ≤ k
+all_if_read_low k no_stmts l h m = m
+all_if_read_low k (more_stmts d ls) l h m =
+    if_read_low k d (all_if_read ls l) (let left = le-max_left (stmt_height d) (stmts_height ls) in omega arith) (all_if_read_low k ls l (let right = le-max_right (stmt_height d) (stmts_height ls) in omega arith) m)
+
+mutual
+  unread_low : (k : ℕ) (l : GenLoop) → stmts_height (loop_stmts l) ≤ k → stmts_height (loop_stmts (without_unread l)) ≤ k
+  unread_low k (gen_loop ls c a b inner) h =
+      let l = low_loop k ls c a b inner h in
+      let body = l.body in
+      let i = unread_below_low (k - 1) inner (omega arith) in
+      all_if_read_low k ls _ l.lets (loop_low k no_stmts c a b (below_without_unread inner) (record { lets = omega arith; from = l.from; to = l.to; body = omega arith }))
+
+  unread_below_low : (k : ℕ) (inner : Inner) → stmts_height (inner_stmts inner) ≤ k → stmts_height (inner_stmts (below_without_unread inner)) ≤ k
+  unread_below_low k (Nest l) h = unread_low k l h
+  unread_below_low k (Seq ps) h = h
+
+known_adds : (d n : ℕ) (r : Option Name) → Adds (counter_height r) (known_at d n r)
+known_adds d n r k l h = unread_low (counter_height r + k) (at_loop d (counted_to n r) l) (at_loop_adds (counter_height r) d (counted_to n r) (counted_adds n r) k l h)
+
 reversed_adds : (r : Name) → Adds 2 (reversed r)
 reversed_adds r k (gen_loop ls c a b inner) h =
     let l = low_loop k ls c a b inner h in
@@ -191,7 +224,7 @@ from_zero_low f g = by (begins_at_zero g.parts)
     by false = gen_low 1 _ (rebased_adds (drawn f) (drawn (after_draws 1 f)) (drawn (after_draws 2 f))) (height g) g (omega arith)
 
 pub count_low : (d k : ℕ) (r : Option Name) (g : Gen) → height (with_count d k r g) ≤ counter_height r + height g
-count_low d k r g = gen_low (counter_height r) _ (at_loop_adds (counter_height r) d (counted_to k r) (counted_adds k r)) (height g) g (omega arith)
+count_low d k r g = gen_low (counter_height r) _ (known_adds d k r) (height g) g (omega arith)
 
 twice : (f h : GenLoop → GenLoop) (ps : Parts) → on_first f (on_first h ps) ≡ on_first (λ l. f (h l)) ps
 twice f h no_parts = refl

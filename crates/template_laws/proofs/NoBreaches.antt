@@ -1,5 +1,5 @@
 -- The answers break no name rule.
-use Rattle.std.proofs.Common.{◌≡◌, refl, ap, ◌∙◌, ℕ, suc, Some, None, Bool, true, false}
+use Rattle.std.proofs.Common.{◌≡◌, refl, ap, ◌∙◌, ℕ, suc, Option, Some, None, Bool, true, false}
 use Rattle.std.specs.Prelude.{if◌then◌else◌}
 use Rattle.c_tree.specs.Bare.{Name, Expr, Stmt, decl, Stmts, no_stmts, more_stmts}
 use Rattle.c_tree.specs.NameRules.Scopes.{Scope}
@@ -10,12 +10,13 @@ use Rattle.loop_normal.specs.Gens.{GenLoop, gen_loop, Inner, Nest, Seq, Looped, 
 use Rattle.loop_normal.specs.Templates.{put_let, rebased, on_first, begins_at_zero}
 use Rattle.loop_normal.specs.FromZero.{from_zero}
 use Rattle.loop_normal.proofs.FreshFrames.{differ_sym}
-use Rattle.nest_normal.specs.NestTexts.{declares, counted_to, zero_in, with_count}
+use Rattle.nest_normal.specs.NestTexts.{declares, counted_to, at_loop, zero_in, with_count}
 use Rattle.permute_reverse.specs.Reversed.{reversed, reversed_gen}
-use Rattle.template_laws.specs.Names.{BreaksNone, NeverDrawn, DrawsApart, Unseen, IsOrderlyBelow, FirstIsOrderly, IsFine}
+use Rattle.template_laws.specs.Names.{BreaksNone, NeverDrawn, DrawsApart, Unseen, IsOrderlyBelow, FirstIsOrderly, IsFine, IsOne}
 use Rattle.template_laws.proofs.Lists.{first_has, second_has, has_loop}
-use Rattle.template_laws.proofs.Kept.{gen_kept, rebased_kept}
+use Rattle.template_laws.proofs.Kept.{HasIf, gen_kept, first_kept, ended_kept, rebased_kept}
 use Rattle.template_laws.proofs.Plain.{AnyName, AnyExpr, AnyNumber, plain_each}
+use Rattle.template_laws.proofs.Unread.{nest_breaks_none}
 use Rattle.template_laws.proofs.NamesMore.{all_more}
 use Rattle.template_laws.proofs.Seen.{sees_self}
 use Rattle.template_laws.proofs.LoopNames.{after_all, join_breaks, names_each, unseen_after}
@@ -57,12 +58,19 @@ rebase_breaks_none inside il s f g w = by (begins_at_zero g.parts)
 
 -- ---- a known count
 
-pub count_breaks_none : (inside il : Bool) (s : Scope) (f : FreshNames) (d k : ℕ) (g : Gen) → IsFine inside il s f g → BreaksNone inside il s (emit (with_count d k (if zero_in d g.parts then None else Some (drawn f)) g))
-count_breaks_none inside il s f d k g w = by (zero_in d g.parts)
-  where
-    by : (t : Bool) → BreaksNone inside il s (emit (with_count d k (if t then None else Some (drawn f)) g))
-    by true = gen_breaks_none f inside _ (at_loop_changes f inside d (counted_to k None) (to_literal_changes f inside k)) il s g w
-    by false = gen_breaks_none f inside _ (at_loop_changes f inside d (counted_to k (Some (drawn f))) (fixed_changes f inside k 0)) il s g w
+module _ (inside il : Bool) (s : Scope) (f : FreshNames) (d k : ℕ) where
+  known_breaks_none : (r : Option Name) → HasIf AnyName r → Changes f inside (at_loop d (counted_to k r)) → (g : Gen) → IsFine inside il s f g → IsOne g.parts → BreaksNone inside il s (emit (with_count d k r g))
+  known_breaks_none r any changes g w one =
+      let ended = at_loop d (counted_to k r) in
+      let plain = first_kept AnyName AnyExpr AnyNumber AllPlain plain_each ended (ended_kept AnyName AnyExpr AnyNumber AllPlain plain_each d k r tt any) g.parts (second_has AnyName AnyExpr AnyNumber AllPlain plain_each g.front (parts_stmts g.parts) w.plain) in
+      nest_breaks_none inside ended il s g.front g.parts one plain (gen_breaks_none f inside ended changes il s g w)
+
+  pub count_breaks_none : (g : Gen) → IsFine inside il s f g → IsOne g.parts → BreaksNone inside il s (emit (with_count d k (if zero_in d g.parts then None else Some (drawn f)) g))
+  count_breaks_none g w one = by (zero_in d g.parts)
+    where
+      by : (t : Bool) → BreaksNone inside il s (emit (with_count d k (if t then None else Some (drawn f)) g))
+      by true = known_breaks_none None tt (at_loop_changes f inside d (counted_to k None) (to_literal_changes f inside k)) g w one
+      by false = known_breaks_none (Some (drawn f)) tt (at_loop_changes f inside d (counted_to k (Some (drawn f))) (fixed_changes f inside k 0)) g w one
 
 -- ---- a reversal, after the loop was brought to begin at 0
 

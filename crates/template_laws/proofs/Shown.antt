@@ -14,11 +14,12 @@ use Rattle.loop_normal.specs.DrawnNames.{FreshNames, drawn, after_draws}
 use Rattle.loop_normal.specs.Gens.{GenLoop, gen_loop, Inner, Nest, Seq, Looped, Plain, Parts, no_parts, more_parts, Gen, join, let_stmt, loop_stmts, inner_stmts, parts_stmts, emit}
 use Rattle.loop_normal.specs.Templates.{ll, only, put_let, LoopNames, SourceLoop, source_var, leaf, rebased, on_first, begins_at_zero}
 use Rattle.loop_normal.specs.FromZero.{from_zero}
-use Rattle.nest_normal.specs.NestTexts.{put_visible, is_hidden, declare_in, declare_below, loop_round, nest_round, counted_to, at_loop, with_count}
+use Rattle.nest_normal.specs.NestTexts.{put_visible, is_hidden, declare_in, declare_below, loop_round, nest_round, counted_to, at_loop, known_at, with_count}
+use Rattle.nest_normal.specs.Spelled.{is_unread, before, before_if_read, all_if_read, without_unread, below_without_unread}
 use Rattle.permute_reverse.specs.Reversed.{reversed, reversed_gen}
 use Rattle.template_laws.specs.Outlines.{shown, shown_with_round}
-use Rattle.template_laws.proofs.Lists.{first_has, second_has, has_loop}
-use Rattle.template_laws.proofs.Kept.{LoopKept, declare_kept, rebased_kept, count_kept, reversed_kept, first_kept}
+use Rattle.template_laws.proofs.Lists.{first_has, second_has, loop_has, has_loop}
+use Rattle.template_laws.proofs.Kept.{LoopKept, declare_kept, rebased_kept, ended_kept, all_if_read_has, unread_below_kept, count_kept, reversed_kept, first_kept}
 use Rattle.template_laws.proofs.Plain.{AnyName, AnyExpr, AnyNumber, plain_each, any_if, round_plain, from_zero_plain}
 
 -- ---- in any two scopes
@@ -112,9 +113,48 @@ module _ (ds : List Define) (s : State) where
   at_loop_shows (suc d) k r (gen_loop ls c a b (Seq ps)) h = refl
   at_loop_shows (suc d) k r (gen_loop ls c a b (Nest l)) h =
       let i = below_plain ls c a b (Nest l) h in
-      loop_shows ls c a b (Nest (at_loop d (counted_to k r) l)) (count_kept AnyName AnyExpr AnyNumber AllPlain plain_each d k r tt (any_if r) l i)
+      loop_shows ls c a b (Nest (at_loop d (counted_to k r) l)) (ended_kept AnyName AnyExpr AnyNumber AllPlain plain_each d k r tt (any_if r) l i)
       ∙ ap (λ z. shows ls ++ nested 1 z) (at_loop_shows d k r l i)
       ∙ sym (loop_shows ls c a b (Nest l) i)
+
+  -- ---- fewer declarations
+
+  before_shows : (d : Stmt) (l : GenLoop) → AllPlain (loop_stmts l) → shows (loop_stmts (before d l)) ≡ shows (only d) ++ shows (loop_stmts l)
+  before_shows d (gen_loop ls c a b inner) h = joined_shows (only d) (loop_stmts (gen_loop ls c a b inner)) h
+
+  -- what isn't put there shows nothing
+  if_read_shows : (d : Stmt) (l : GenLoop) → AllPlain (loop_stmts l) → shows (loop_stmts (before_if_read d l)) ≡ shows (only d) ++ shows (loop_stmts l)
+  if_read_shows (decl t x e) l h = by (is_unread (decl t x e) l)
+    where
+      by : (b : Bool) → shows (loop_stmts (if b then l else before (decl t x e) l)) ≡ shows (loop_stmts l)
+      by true = refl
+      by false = before_shows (decl t x e) l h
+  if_read_shows d l h = before_shows d l h
+
+  all_if_read_shows : (ls : Stmts) (l : GenLoop) → AllPlain ls → AllPlain (loop_stmts l) → shows (loop_stmts (all_if_read ls l)) ≡ shows ls ++ shows (loop_stmts l)
+  all_if_read_shows no_stmts l h k = refl
+  all_if_read_shows (more_stmts d ls) l h k =
+      if_read_shows d (all_if_read ls l) (all_if_read_has AnyName AnyExpr AnyNumber AllPlain plain_each ls l h.1 k)
+      ∙ ap (λ z. shows (only d) ++ z) (all_if_read_shows ls l h.1 k)
+      ∙ sym (append_assoc (shows (only d)) (shows ls) (shows (loop_stmts l)))
+      ∙ ap (λ z. z ++ shows (loop_stmts l)) (sym (joined_shows (only d) ls h.1))
+
+  mutual
+    unread_shows : Unshown without_unread
+    unread_shows (gen_loop ls c a b inner) h =
+        let w = has_loop AnyName AnyExpr AnyNumber AllPlain plain_each ls c a b inner h in
+        let below = unread_below_kept AnyName AnyExpr AnyNumber AllPlain plain_each inner w.body in
+        let rest = gen_loop no_stmts c a b (below_without_unread inner) in
+        all_if_read_shows ls rest w.lets (loop_has AnyName AnyExpr AnyNumber AllPlain plain_each no_stmts c a b (below_without_unread inner) (record { lets = tt; counter = tt; from = tt; to = tt; body = below }))
+        ∙ ap (λ z. shows ls ++ z) (loop_shows no_stmts c a b (below_without_unread inner) below ∙ ap (nested 1) (unread_below_shows inner w.body))
+        ∙ sym (loop_shows ls c a b inner w.body)
+
+    unread_below_shows : (inner : Inner) → AllPlain (inner_stmts inner) → shows (inner_stmts (below_without_unread inner)) ≡ shows (inner_stmts inner)
+    unread_below_shows (Nest l) h = unread_shows l h
+    unread_below_shows (Seq ps) h = refl
+
+  known_shows : (d k : ℕ) (r : Option Name) → Unshown (known_at d k r)
+  known_shows d k r l h = unread_shows (at_loop d (counted_to k r) l) (ended_kept AnyName AnyExpr AnyNumber AllPlain plain_each d k r tt (any_if r) l h) ∙ at_loop_shows d k r l h
 
   reversed_shows : (r : Name) → Unshown (reversed r)
   reversed_shows r (gen_loop ls c a b inner) h = one_other ls c r a b (ll 0) b (bin Sub (bin Sub b (ll 1)) (read r)) inner h
@@ -146,7 +186,7 @@ module _ (ds : List Define) (s : State) where
       by false = gen_shows _ (rebased_shows _ _ _) (rebased_kept AnyName AnyExpr AnyNumber AllPlain plain_each (drawn f) (drawn (after_draws 1 f)) (drawn (after_draws 2 f)) tt tt tt) g h
 
   pub count_shows : (d k : ℕ) (r : Option Name) (g : Gen) → AllPlain (emit g) → shown ds s (with_count d k r g) ≡ shown ds s g
-  count_shows d k r g h = gen_shows (at_loop d (counted_to k r)) (at_loop_shows d k r) (count_kept AnyName AnyExpr AnyNumber AllPlain plain_each d k r tt (any_if r)) g h
+  count_shows d k r g h = gen_shows (known_at d k r) (known_shows d k r) (count_kept AnyName AnyExpr AnyNumber AllPlain plain_each d k r tt (any_if r)) g h
 
   pub reverse_shows : (r : Name) (f : FreshNames) (g : Gen) → AllPlain (emit g) → shown ds s (reversed_gen r (from_zero f g)) ≡ shown ds s g
   reverse_shows r f g h = gen_shows (reversed r) (reversed_shows r) (reversed_kept AnyName AnyExpr AnyNumber AllPlain plain_each r tt) (from_zero f g) (from_zero_plain f g h) ∙ from_zero_shows f g h

@@ -6,7 +6,8 @@ use Rattle.loop_normal.specs.DrawnNames.{FreshNames, drawn, after_draws}
 use Rattle.loop_normal.specs.Gens.{GenLoop, gen_loop, Inner, Nest, Seq, Looped, Plain, Parts, no_parts, more_parts, Gen, join, counter_loop, loop_stmts, inner_stmts, parts_stmts}
 use Rattle.loop_normal.specs.Templates.{only, put_let, LoopNames, SourceLoop, source_var, leaf, rebased, on_first, begins_at_zero}
 use Rattle.loop_normal.specs.FromZero.{from_zero}
-use Rattle.nest_normal.specs.NestTexts.{put_visible, is_hidden, declare_in, declare_below, loop_round, nest_round, counted_to, at_loop, with_count}
+use Rattle.nest_normal.specs.NestTexts.{put_visible, is_hidden, declare_in, declare_below, loop_round, nest_round, counted_to, at_loop, known_at, with_count}
+use Rattle.nest_normal.specs.Spelled.{is_unread, before, before_if_read, all_if_read, without_unread, below_without_unread}
 use Rattle.permute_reverse.specs.Reversed.{reversed, reversed_gen}
 use Rattle.template_laws.specs.NoBreaks.{NoBreak, NoBreaks, IsStayedIn, AreStayedInBelow, AreStayedIn, StaysIn}
 
@@ -67,6 +68,34 @@ at_loop_held (suc d) f also (gen_loop ls c a b (Nest l)) k =
     let below = at_loop_held d f also l (record { none = k.stayed.0; stayed = k.stayed.1 }) in
     record { none = loop_none ls c a b (Nest (at_loop d f l)) (none_loop ls c a b (Nest l) k.none); stayed = (below.none, below.stayed) }
 
+-- ---- fewer declarations
+
+before_held : (d : Stmt) (l : GenLoop) → NoBreak d → Held l → Held (before d l)
+before_held d (gen_loop ls c a b inner) h k = record { none = (h, k.none); stayed = k.stayed }
+
+if_read_held : (d : Stmt) (l : GenLoop) → NoBreak d → Held l → Held (before_if_read d l)
+if_read_held d l h k = by (is_unread d l)
+  where
+    by : (t : Bool) → Held (if t then l else before d l)
+    by true = k
+    by false = before_held d l h k
+
+all_if_read_held : (ls : Stmts) (l : GenLoop) → NoBreaks ls → Held l → Held (all_if_read ls l)
+all_if_read_held no_stmts l h k = k
+all_if_read_held (more_stmts d ls) l h k = if_read_held d (all_if_read ls l) h.0 (all_if_read_held ls l h.1 k)
+
+mutual
+  unread_held : HoldsAlso without_unread
+  unread_held (gen_loop ls c a b inner) k =
+      all_if_read_held ls _ (none_loop ls c a b inner k.none) (record { none = loop_none no_stmts c a b (below_without_unread inner) tt; stayed = unread_below_held inner k.stayed.0 k.stayed.1 })
+
+  unread_below_held : (inner : Inner) → NoBreaks (inner_stmts inner) → AreStayedInBelow inner → NoBreaks (inner_stmts (below_without_unread inner)) × AreStayedInBelow (below_without_unread inner)
+  unread_below_held (Nest l) n k = let held = unread_held l (record { none = n; stayed = k }) in (held.none, held.stayed)
+  unread_below_held (Seq ps) n k = (n, k)
+
+known_held : (d n : ℕ) (r : Option Name) → HoldsAlso (known_at d n r)
+known_held d n r l k = unread_held (at_loop d (counted_to n r) l) (at_loop_held d (counted_to n r) (counted_held n r) l k)
+
 reversed_held : (r : Name) → HoldsAlso (reversed r)
 reversed_held r (gen_loop ls c a b inner) k = other_held ls ls c r a b _ _ _ inner tt (none_loop ls c a b inner k.none) k
 
@@ -115,7 +144,7 @@ from_zero_stays f g k = by (begins_at_zero g.parts)
     by false = gen_stays (rebased (drawn f) (drawn (after_draws 1 f)) (drawn (after_draws 2 f))) (rebased_held (drawn f) (drawn (after_draws 1 f)) (drawn (after_draws 2 f))) g k
 
 pub count_stays : (d n : ℕ) (r : Option Name) (g : Gen) → StaysIn g → StaysIn (with_count d n r g)
-count_stays d n r g k = gen_stays (at_loop d (counted_to n r)) (at_loop_held d (counted_to n r) (counted_held n r)) g k
+count_stays d n r g k = gen_stays (known_at d n r) (known_held d n r) g k
 
 pub reverse_stays : (r : Name) (f : FreshNames) (g : Gen) → StaysIn g → StaysIn (reversed_gen r (from_zero f g))
 reverse_stays r f g k = gen_stays (reversed r) (reversed_held r) (from_zero f g) (from_zero_stays f g k)

@@ -75,9 +75,16 @@ pub record IsFine (in_function in_loop : Bool) (s : Scope) (f : FreshNames) (g :
 abbrev pub RebaseBreaksNone : Type 0
 RebaseBreaksNone = (in_function in_loop : Bool) (s : Scope) (f : FreshNames) (g : Gen) → IsFine in_function in_loop s f g → BreaksNone in_function in_loop s (emit (from_zero f g))
 
+-- one part
+abbrev pub IsOne : Parts → Type 0
+IsOne no_parts = ⊥
+IsOne (more_parts p no_parts) = Unit {0}
+IsOne (more_parts p (more_parts q ps)) = ⊥
+
+-- of one nest, since another part might read what is dropped
 abbrev pub CountBreaksNone : Type 0
 CountBreaksNone =
-    (in_function in_loop : Bool) (s : Scope) (f : FreshNames) (d k : ℕ) (g : Gen) → IsFine in_function in_loop s f g →
+    (in_function in_loop : Bool) (s : Scope) (f : FreshNames) (d k : ℕ) (g : Gen) → IsFine in_function in_loop s f g → IsOne g.parts →
     BreaksNone in_function in_loop s (emit (with_count d k (new_counter f d g) g))
 
 abbrev pub ReverseBreaksNone : Type 0

@@ -17,7 +17,7 @@ pub returns-clause-rebase : goal.returns-clause-rebase
 returns-clause-rebase _ = rebase_breaks_none
 
 pub returns-clause-count : goal.returns-clause-count
-returns-clause-count _ = count_breaks_none
+returns-clause-count _ = λ in_function in_loop s f d k. count_breaks_none in_function in_loop s f d k
 
 pub returns-clause-reverse : goal.returns-clause-reverse
 returns-clause-reverse _ = reverse_breaks_none
