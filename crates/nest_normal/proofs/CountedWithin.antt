@@ -14,11 +14,12 @@ use Rattle.loop_normal.specs.Denotes.{Calm, Value, PartMeans, LetsApart}
 use Rattle.loop_normal.proofs.FreshFrames.{value_num}
 use Rattle.nest_counts.specs.HasKinds.{turns}
 use Rattle.nest_counts.proofs.Source.{each_put, put_turns}
-use Rattle.nest_normal.specs.NestTexts.{declare_in, counted_to, at_loop, zero_at}
+use Rattle.nest_normal.specs.NestTexts.{declare_in, counted_to, at_loop, known_at, zero_at}
 use Rattle.nest_normal.specs.OuterVariables.{Outer, declaration_of, declared, puts}
 use Rattle.nest_normal.specs.NestDenotes.{IsSteady, NestMeans}
 use Rattle.nest_normal.specs.KnownCounts.{Turns, AllTurns}
 use Rattle.nest_normal.proofs.KnownCount.{zero_value, counted_means, lets_kept}
+use Rattle.nest_normal.proofs.UnreadLets.{unread_steady}
 
 -- ---- values before the values of the bodies
 
@@ -58,6 +59,10 @@ module _ (n : ℕ) (env : Env) (bs : List Body) (Out : Name → Type 0) where
       (h.0, h.1, h.2, k, h.4, subst (Value env.defines F (ll k)) same (value_num env.defines F k small), h.6)
   steady_counted (suc d) k (gen_loop ls c a b (Nest l)) p small e h = (h.0, h.1, h.2, h.3, h.4, h.5, steady_counted d k l h.0 small e h.6)
   steady_counted (suc d) k (gen_loop ls c a b (Seq ps)) p small e h = h
+
+  -- without the declarations that nothing reads any more
+  pub known_steady : (d k : ℕ) (l : GenLoop) (p : List Var) → k < 2 ^ 63 → zero_at d l ≡ true → IsSteady n env bs Out l p → IsSteady n env bs Out (known_at d k None l) p
+  known_steady d k l p small e h = unread_steady n env bs Out (at_loop d (counted_to k None) l) p (steady_counted d k l p small e h)
 
   pub counted_within : Calm bs → (d k : ℕ) (own : List Name) (xs : List (Name × Ty)) (front : Stmts) (l : GenLoop) (s : State) (r : Result (List Tree) Trap) → zero_at d l ≡ true → k < 2 ^ 63 → AllTurns d k r →
       NestMeans n env bs Out own xs front l s r → NestMeans n env bs Out own xs front (at_loop d (counted_to k None) l) s r

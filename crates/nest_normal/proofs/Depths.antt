@@ -3,6 +3,7 @@ use Rattle.std.proofs.Common.{◌≡◌, refl, sym, ap, ℕ, zero, suc, ◌-◌,
 use Rattle.c_tree.specs.Bare.{Name, Expr, Stmts}
 use Rattle.loop_normal.specs.Gens.{GenLoop, gen_loop, Inner}
 use Rattle.nest_normal.specs.NestTexts.{at_loop, at_below, zero_at, zero_below}
+use Rattle.nest_normal.proofs.LoopFields.{bare_loop_out}
 
 one_less : (d : ℕ) → suc d - 1 ≡ d
 one_less d = omega arith
@@ -15,4 +16,4 @@ pub at_next : (d : ℕ) (f : GenLoop → GenLoop) (ls : Stmts) (c : Name) (a b :
 at_next zero f ls c a b inner h = absurd (omega (arith, h))
 at_next (suc d) f ls c a b inner h = sym (ap (λ k. gen_loop ls c a b (at_below k f inner)) (one_less d))
 
-pub ruleset depths = (zero_next, at_next)
+pub ruleset depths = (zero_next, at_next, bare_loop_out)

@@ -21,7 +21,7 @@ use Rattle.loop_normal.proofs.Members.{to_of, length_members, nth_members}
 use Rattle.loop_normal.proofs.Rebase.{fixed_means}
 use Rattle.nest_normal.specs.NestTexts.{nest_of, counted_to, at_loop, known_at, with_count}
 use Rattle.nest_normal.specs.KnownCounts.{Turns, AllTurns, IsCounterFor, UndeclaredIf}
-use Rattle.nest_normal.proofs.Unread.{unread_means, unread_apart}
+use Rattle.nest_normal.proofs.UnreadLets.{unread_means, unread_apart}
 
 -- ---- the literal 0
 

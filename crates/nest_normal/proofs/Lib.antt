@@ -6,7 +6,7 @@ pub mod RoundNests
 pub mod Nests
 pub mod SpelledNames
 pub mod WithoutVariable
-pub mod Unread
+pub mod UnreadLets
 pub mod KnownCount
 pub mod CountedWithin
 pub mod HiddenNames
@@ -14,3 +14,4 @@ pub mod Shown
 pub mod Lists
 pub mod Depths
 pub mod SpelledWalks
+pub mod LoopFields

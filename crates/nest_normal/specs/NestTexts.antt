@@ -2,7 +2,8 @@
 use Rattle.std.specs.Prelude.{ℕ, zero, suc, Option, Some, None, Bool, true, false, bytes_eq, if◌then◌else◌}
 use Rattle.c_tree.specs.Bare.{Name, read, Stmt, decl, block, Stmts, no_stmts, more_stmts}
 use Rattle.loop_normal.specs.DrawnNames.{FreshNames, drawn, after_draw}
-use Rattle.loop_normal.specs.Gens.{GenLoop, gen_loop, Inner, Nest, Seq, Looped, Plain, Parts, no_parts, more_parts, Gen, parts_stmts}
+use Rattle.loop_normal.specs.Denotes.{lets_of}
+use Rattle.loop_normal.specs.Gens.{GenLoop, gen_loop, Inner, Nest, Seq, Part, Looped, Plain, Parts, no_parts, more_parts, Gen, parts_stmts}
 use Rattle.loop_normal.specs.Templates.{ll, only, LoopNames, SourceLoop, source_front, source_var, fixed, is_zero_literal, on_first}
 use Rattle.nest_normal.specs.Spelled.{without_unread}
 
@@ -24,6 +25,11 @@ declares_name x _ = false
 abbrev pub declares : Name → Stmts → Bool
 declares x no_stmts = false
 declares x (more_stmts a as') = if declares_name x a then true else declares x as'
+
+-- a part does: before its loop, or in its list
+abbrev pub part_declares : Name → Part → Bool
+part_declares x (Looped l) = declares x (lets_of l)
+part_declares x (Plain as') = declares x as'
 
 -- a declaration of a name that the list declares too
 abbrev pub is_hidden : Stmt → Stmts → Bool

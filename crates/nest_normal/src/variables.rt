@@ -2,7 +2,8 @@
 
 ghost use Rattle.std.specs.Prelude.{◌≡◌, IfOk};
 ghost use Rattle.c_tree.specs.BareOf.{bare_stmt, bare_stmts};
-ghost use Rattle.loop_normal.specs.Gens.{loop_stmts, part_stmts, parts_stmts};
+ghost use Rattle.loop_normal.specs.Denotes.{lets_of};
+ghost use Rattle.loop_normal.specs.Gens.{parts_stmts};
 ghost use Rattle.loop_normal.specs.GenOf.{bare_body, bare_loop, bare_part, bare_parts};
 ghost use Rattle.nest_normal.specs.NestTexts as t;
 
@@ -35,18 +36,18 @@ fn declares(stmts: &[Stmt], name: &Name) -> bool
     false
 }
 
-#[tactic(auto, using(crate::proofs::Lists::declares_loop))]
-fn loop_declares(looped: &GenLoop, name: &Name) -> bool
-    ensures { result ≡ t.declares name.now (loop_stmts (bare_loop looped.now)) }
+#[tactic(auto, using(crate::proofs::LoopFields::fields))]
+fn lets_declare(looped: &GenLoop, name: &Name) -> bool
+    ensures { result ≡ t.declares name.now (lets_of (bare_loop looped.now)) }
 {
     declares(looped.lets.as_slice(), name)
 }
 
 fn part_declares(part: &GenPart, name: &Name) -> bool
-    ensures { result ≡ t.declares name.now (part_stmts (bare_part part.now)) }
+    ensures { result ≡ t.part_declares name.now (bare_part part.now) }
 {
     match part {
-        GenPart::Loop(looped) => loop_declares(looped.get(), name),
+        GenPart::Loop(looped) => lets_declare(looped.get(), name),
         GenPart::Plain(list) => declares(list.as_slice(), name),
     }
 }

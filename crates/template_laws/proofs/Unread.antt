@@ -12,7 +12,7 @@ use Rattle.loop_normal.specs.Gens.{GenLoop, gen_loop, Inner, Nest, Seq, Looped, 
 use Rattle.loop_normal.specs.Templates.{only, on_first}
 use Rattle.nest_normal.specs.Spelled.{in_loop, before, before_if_read, all_if_read, without_unread, below_without_unread}
 use Rattle.nest_normal.proofs.SpelledNames.{nest_uses}
-use Rattle.nest_normal.proofs.Unread.{by_value}
+use Rattle.nest_normal.proofs.UnreadLets.{by_value}
 use Rattle.template_laws.specs.Names.{BreaksNone, IsOne}
 use Rattle.template_laws.proofs.Lists.{first_has, loop_has, has_loop}
 use Rattle.template_laws.proofs.Kept.{all_if_read_has, unread_below_kept}
