@@ -17,9 +17,11 @@ use Rattle.nest_counts.proofs.Source.{each_put, put_turns}
 use Rattle.nest_normal.specs.NestTexts.{declare_in, counted_to, at_loop, known_at, zero_at}
 use Rattle.nest_normal.specs.OuterVariables.{Outer, declaration_of, declared, puts}
 use Rattle.nest_normal.specs.NestDenotes.{IsSteady, NestMeans}
-use Rattle.nest_normal.specs.KnownCounts.{Turns, AllTurns}
-use Rattle.nest_normal.proofs.KnownCount.{zero_value, counted_means, lets_kept}
-use Rattle.nest_normal.proofs.UnreadLets.{unread_steady}
+use Rattle.nest_normal.specs.Spelled.{without_unread}
+use Rattle.nest_normal.specs.KnownCounts.{Turns, AllTurns, AllFresh, DeclaresOwn}
+use Rattle.nest_normal.proofs.KnownCount.{zero_value, known_means, lets_kept}
+use Rattle.nest_normal.proofs.UnreadLets.{unread_steady, unread_apart}
+use Rattle.nest_normal.proofs.UnreadWithin.{declared_unread}
 
 -- ---- values before the values of the bodies
 
@@ -64,19 +66,26 @@ module _ (n : ℕ) (env : Env) (bs : List Body) (Out : Name → Type 0) where
   pub known_steady : (d k : ℕ) (l : GenLoop) (p : List Var) → k < 2 ^ 63 → zero_at d l ≡ true → IsSteady n env bs Out l p → IsSteady n env bs Out (known_at d k None l) p
   known_steady d k l p small e h = unread_steady n env bs Out (at_loop d (counted_to k None) l) p (steady_counted d k l p small e h)
 
-  pub counted_within : Calm bs → (d k : ℕ) (own : List Name) (xs : List (Name × Ty)) (front : Stmts) (l : GenLoop) (s : State) (r : Result (List Tree) Trap) → zero_at d l ≡ true → k < 2 ^ 63 → AllTurns d k r →
-      NestMeans n env bs Out own xs front l s r → NestMeans n env bs Out own xs front (at_loop d (counted_to k None) l) s r
-  counted_within calm d k own xs front l s (Err x) e small turns h = h
-  counted_within calm d k own xs front l s (Ok []) e small turns h = h
-  counted_within calm d k own xs front l s (Ok (t ∷ u ∷ ts)) e small turns h = h
-  counted_within calm d k own xs front l s (Ok (t ∷ [])) e small turns h = (
+  ended_own : (own : List Name) (d k : ℕ) (l : GenLoop) → DeclaresOwn own l → DeclaresOwn own (at_loop d (counted_to k None) l)
+  ended_own own zero k (gen_loop ls c a b inner) h = h
+  ended_own own (suc d) k (gen_loop ls c a b (Nest l)) h = (h.0, ended_own own d k l h.1)
+  ended_own own (suc d) k (gen_loop ls c a b (Seq ps)) h = h
+
+  pub counted_within : Calm bs → (d k : ℕ) (own : List Name) (xs : List (Name × Ty)) (front : Stmts) (l : GenLoop) (s : State) (r : Result (List Tree) Trap) →
+      AllFresh Out own → DeclaresOwn own l → zero_at d l ≡ true → k < 2 ^ 63 → AllTurns d k r → NestMeans n env bs Out own xs front l s r → NestMeans n env bs Out own xs front (known_at d k None l) s r
+  counted_within calm d k own xs front l s (Err x) fresh lets e small turns h = h
+  counted_within calm d k own xs front l s (Ok []) fresh lets e small turns h = h
+  counted_within calm d k own xs front l s (Ok (t ∷ u ∷ ts)) fresh lets e small turns h = h
+  counted_within calm d k own xs front l s (Ok (t ∷ [])) fresh lets e small turns h = (
     h.0,
     h.1,
-    (λ p none. steady_counted d k l (h.0 ++ p) small e (h.2 p none)),
-    λ p os zs none is given.
-        let part = h.3 p os zs none is given in
-        let zero_ = declared_zero os d l ∙ e in
-        let means = counted_means n env bs Out calm d k None (declared os l) (h.0 ++ p) (puts zs t) zero_ small (turns_puts d k zs t turns.0) part.0 in
-        let apart = subst (λ ls. LetsApart ls (h.0 ++ p)) (sym (lets_kept n env bs Out calm d k None (declared os l))) part.1 in
-        subst (λ m. PartMeans n env bs Out (Looped m) (h.0 ++ p) (puts zs t)) (sym (declared_counted os d k l)) (means, apart),
+    (λ p none. known_steady d k l (h.0 ++ p) small e (h.2 p none)),
+    λ p os zs none is given others.
+        let part = h.3 p os zs none is given others in
+        let frame = h.0 ++ p in
+        let ended = at_loop d (counted_to k None) (declared os l) in
+        let same = declared_unread own Out fresh env.defines p os zs (at_loop d (counted_to k None) l) given others (ended_own own d k l lets) ∙ ap without_unread (declared_counted os d k l) in
+        let means = known_means n env bs Out calm d k None (declared os l) frame (puts zs t) (declared_zero os d l ∙ e) small (turns_puts d k zs t turns.0) part.0 in
+        let apart = subst (λ ls. LetsApart ls frame) (sym (lets_kept n env bs Out calm d k None (declared os l))) part.1 in
+        subst (λ m. PartMeans n env bs Out (Looped m) frame (puts zs t)) (sym same) (means, unread_apart ended frame apart),
   )

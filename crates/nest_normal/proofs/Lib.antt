@@ -1,3 +1,4 @@
+pub mod NamesMore
 pub mod HiddenCopies
 pub mod OuterLists
 pub mod Innermost
@@ -8,6 +9,7 @@ pub mod SpelledNames
 pub mod WithoutVariable
 pub mod UnreadLets
 pub mod KnownCount
+pub mod UnreadWithin
 pub mod CountedWithin
 pub mod HiddenNames
 pub mod Shown

@@ -33,7 +33,7 @@ module _ (n : ℕ) (env : Env) (bs : List Body) (Out : Name → Type 0) where
   within_map own xs front S S' M M' s (Err x) g f h = h
   within_map own xs front S S' M M' s (Ok []) g f h = absurd h
   within_map own xs front S S' M M' s (Ok (t ∷ u ∷ ts)) g f h = absurd h
-  within_map own xs front S S' M M' s (Ok (t ∷ [])) g f h = (h.0, h.1, (λ p a. g (h.0 ++ p) (h.2 p a)), λ p os zs a b c. f os (h.0 ++ p) (puts zs t) (h.3 p os zs a b c))
+  within_map own xs front S S' M M' s (Ok (t ∷ [])) g f h = (h.0, h.1, (λ p a. g (h.0 ++ p) (h.2 p a)), λ p os zs a b c d. f os (h.0 ++ p) (puts zs t) (h.3 p os zs a b c d))
 
   -- what is below a loop, weakened
   loop_inner : (ls : Stmts) (c : Name) (a b : Expr) (i j : Inner) (p : List Var) (t : Tree) → ((q : List Var) (u : Tree) → InnerMeans n env bs Out i q u → InnerMeans n env bs Out j q u) →
@@ -65,7 +65,7 @@ module _ (n : ℕ) (env : Env) (bs : List Body) (Out : Name → Type 0) where
   nest_means own front l p s (Err x) none h = λ f a o. h f o
   nest_means own front l p s (Ok []) none h = absurd h
   nest_means own front l p s (Ok (t ∷ u ∷ ts)) none h = absurd h
-  nest_means own front l p s (Ok (t ∷ [])) none h = (h.0, (h.1.0, (λ f a o. h.1.1 f (λ x c e. absurd (not_none c e)) o), h.1.2), (h.3 p [] [] none refl tt, tt))
+  nest_means own front l p s (Ok (t ∷ [])) none h = (h.0, (h.1.0, (λ f a o. h.1.1 f (λ x c e. absurd (not_none c e)) o), h.1.2), (h.3 p [] [] none refl tt tt, tt))
 
 module _ (n : ℕ) (env : Env) (names : List Name) (bs : List Body) (c : Canonical) (T : Ty) (m : LoopNames) (source : IsSource names m c) (xs : List (Name × Ty)) (s : State) (typed_so : loop_type env.defines s c ≡ T) where
   abbrev Out : Name → Type 0
@@ -109,7 +109,7 @@ module _ (n : ℕ) (env : Env) (names : List Name) (bs : List Body) (c : Canonic
       [],
       (tt, (λ f a o. refl), λ x u. refl),
       (λ p none. tt),
-      λ p os zs none is given.
+      λ p os zs none is given apart_.
           let turns = body_turns n env Out as' apart m.begin source.fresh.0 bs p b os zs (at ∙ ap {B = Option Body} (λ vs. Some (record { vars = vs; run = exec_all n env as' })) (sym is)) given in
           subst (λ l. Turns n env bs Out p l (puts zs (body b []))) (sym (parts_visible os block_parts)) (subst (Turns n env bs Out p (visible os (only (block as')))) (sym (puts_body b zs)) turns),
     )

@@ -20,7 +20,7 @@ use Rattle.loop_normal.specs.FreshNames.{Among, Source, NamesNone, AreApart, Apa
 use Rattle.loop_normal.specs.Laws.{source_loop}
 use Rattle.nest_normal.specs.NestTexts.{nest_of, innermost, hides, loop_round, nest_round, at_loop, counted_to, known_at, zero_at, with_count}
 use Rattle.nest_normal.specs.NestDenotes.{HasNone, IsSteady, NestMeans}
-use Rattle.nest_normal.specs.KnownCounts.{Turns, AllTurns, IsCounterFor, UndeclaredIf}
+use Rattle.nest_normal.specs.KnownCounts.{Turns, AllTurns, IsCounterFor, UndeclaredIf, AllFresh, DeclaresOwn}
 
 -- the normal form of one loop is a nest
 abbrev pub LeafIsNest : Type 0
@@ -92,8 +92,9 @@ abbrev pub CountedIsSteady : Type 0
 CountedIsSteady =
     (n : ℕ) (env : Env) (bs : List Body) (names : List Name) (d k : ℕ) (l : GenLoop) (p : List Var) → zero_at d l ≡ true → k < 2 ^ 63 → IsSteady n env bs (Among names) l p → IsSteady n env bs (Among names) (known_at d k None l) p
 
--- and with that count alone it denotes the same within outer loops, whatever these declare
+-- and it denotes the same within outer loops, where it declares fresh names of its own
 abbrev pub CountedWithin : Type 0
 CountedWithin =
     (n : ℕ) (env : Env) (bs : List Body) (names : List Name) → Calm bs → (d k : ℕ) (own : List Name) (xs : List (Name × Ty)) (front : Stmts) (l : GenLoop) (s : State) (r : Result (List Tree) Trap) →
-    zero_at d l ≡ true → k < 2 ^ 63 → AllTurns d k r → NestMeans n env bs (Among names) own xs front l s r → NestMeans n env bs (Among names) own xs front (at_loop d (counted_to k None) l) s r
+    AllFresh (Among names) own → DeclaresOwn own l → zero_at d l ≡ true → k < 2 ^ 63 → AllTurns d k r →
+    NestMeans n env bs (Among names) own xs front l s r → NestMeans n env bs (Among names) own xs front (known_at d k None l) s r

@@ -30,7 +30,7 @@ pub fn nest_denotes()
 
 /// Where the loops at a depth of a nest have a known count, the nest with that count as their end, and without the
 /// declarations that nothing reads any more, denotes the same; so does a Gen of one nest. A nest whose loop begins at the
-/// literal 0 stays steady, and with that end alone it denotes the same within outer loops.
+/// literal 0 stays steady, and denotes the same within outer loops.
 pub fn counted_denotes()
     ensures nest { CountedNestDenotes }
     ensures code { CountedDenotes }

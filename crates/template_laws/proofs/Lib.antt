@@ -8,7 +8,6 @@ pub mod Low
 pub mod StayedIn
 pub mod Scopes
 pub mod Seen
-pub mod NamesMore
 pub mod LoopNames
 pub mod Changed
 pub mod Unread

@@ -17,7 +17,7 @@ use Rattle.template_laws.proofs.Lists.{first_has, second_has, has_loop}
 use Rattle.template_laws.proofs.Kept.{HasIf, gen_kept, first_kept, ended_kept, rebased_kept}
 use Rattle.template_laws.proofs.Plain.{AnyName, AnyExpr, AnyNumber, plain_each}
 use Rattle.template_laws.proofs.Unread.{nest_breaks_none}
-use Rattle.template_laws.proofs.NamesMore.{all_more}
+use Rattle.nest_normal.proofs.NamesMore.{all_more}
 use Rattle.template_laws.proofs.Seen.{sees_self}
 use Rattle.template_laws.proofs.LoopNames.{after_all, join_breaks, names_each, unseen_after}
 use Rattle.template_laws.proofs.Changed.{Given, same_list, first_given, rest_given, Changes, reversed_changes, fixed_changes, to_literal_changes, at_loop_changes, rebased_changes}

@@ -14,4 +14,4 @@ pub returns-clause-steady : goal.returns-clause-steady
 returns-clause-steady _ = λ n env bs names d k l p e small h. known_steady n env bs (Among names) d k l p small e h
 
 pub returns-clause-within : goal.returns-clause-within
-returns-clause-within _ = λ n env bs names calm d k own xs front l s r e small turns h. counted_within n env bs (Among names) calm d k own xs front l s r e small turns h
+returns-clause-within _ = λ n env bs names calm d k own xs front l s r fresh lets e small turns h. counted_within n env bs (Among names) calm d k own xs front l s r fresh lets e small turns h
