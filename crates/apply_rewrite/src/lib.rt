@@ -8,4 +8,3 @@ pub mod laws;
 mod plans;
 pub mod rewrite;
 mod scope;
-mod source_names;
