@@ -1,5 +1,5 @@
--- Names taken in a walk: what a loop has left, and lists one after another.
-use Rattle.std.proofs.Common.{◌≡◌, ◌<◌, ◌≤◌, ◌+◌, ℕ, List, [], ◌++◌, length, map, drop, slice_index_or}
+-- Names put together in a walk: what a loop has left, and lists one after another.
+use Rattle.std.proofs.Common.{◌≡◌, ◌<◌, ◌≤◌, ◌+◌, ℕ, List, [], ◌++◌, length, map, drop, slice_index_or, append_assoc, append-nil}
 use Rattle.c_tree.specs.BareOf.{bare_expr, bare_exprs, bare_stmt, bare_stmts, bare_param, bare_top}
 use Rattle.c_tree.specs.declared.tree.Expr.{Expr}
 use Rattle.c_tree.specs.declared.tree.Stmt.{Stmt}
@@ -8,7 +8,6 @@ use Rattle.c_tree.specs.declared.tree.Item.{Item}
 use Rattle.c_tree.proofs.Walks.{rest_more, rest_none}
 use Rattle.c_tree.proofs.Heads.{bare_head_out}
 use Rattle.loop_normal.specs.SourceNames.{expr_names, exprs_names, stmt_names, stmts_names, kept, params_names, top_names, program_names}
-use Rattle.loop_normal.proofs.TakenNames.{joined}
 
 pub exprs_more : (xs : List Expr) (i : ℕ) (x : Expr) → i < length xs → x ≡ slice_index_or xs i x → exprs_names (bare_exprs (drop i xs)) ≡ expr_names (bare_expr x) ++ exprs_names (bare_exprs (drop (i + 1) xs))
 exprs_more xs i = rest_more (λ ys. exprs_names (bare_exprs ys)) xs i
@@ -34,6 +33,6 @@ tops_more xs i = rest_more (λ ys. program_names (map bare_top ys)) xs i
 pub tops_end : (xs : List Item) (i : ℕ) → length xs ≤ i → program_names (map bare_top (drop i xs)) ≡ []
 tops_end xs i = rest_none (λ ys. program_names (map bare_top ys)) xs i
 
-pub ruleset gathered = (joined, exprs_more, exprs_end, stmts_more, stmts_end, params_more, params_end, tops_more, tops_end)
+pub ruleset gathered = (append_assoc, append-nil, exprs_more, exprs_end, stmts_more, stmts_end, params_more, params_end, tops_more, tops_end)
 
-pub ruleset gathered_heads = (joined, bare_head_out)
+pub ruleset gathered_heads = (append_assoc, append-nil, bare_head_out)

@@ -20,19 +20,17 @@ has_any (k ∷ ks) x = by (bytes_eq x k) (has_any ks x)
     by true rest = refl
     by false rest = rest
 
-pub there_already : (ks : List Name) (x : Name) → has_name ks x ≡ true → ks ≡ with_name ks x
-there_already ks x e = sym (ap (λ b. if b then ks else ks ++ x ∷ []) e)
+put_last : (ks : List Name) (x : Name) → insert_key bytes_eq ks x ≡ with_name ks x
+put_last ks x = ap (λ b. if b then ks else ks ++ x ∷ []) (sym (has_any ks x))
 
-pub put_last : (ks : List Name) (x : Name) (new : List Name) → new ≡ insert_key bytes_eq ks x → new ≡ with_name ks x
-put_last ks x new is = is ∙ sym (ap (λ b. if b then ks else ks ++ x ∷ []) (has_any ks x))
+more_names : (taken xs : List Name) (x : Name) → with_names taken (xs ++ x ∷ []) ≡ with_name (with_names taken xs) x
+more_names taken [] x = refl
+more_names taken (y ∷ xs) x = more_names (with_name taken y) xs x
 
-pub ruleset table = (has_any, there_already, put_last)
+pub taken_more : (xs : List Name) (x : Name) → insert_key bytes_eq (taken_names xs) x ≡ taken_names (xs ++ x ∷ [])
+taken_more xs x = put_last (taken_names xs) x ∙ sym (more_names [] xs x)
 
--- ---- lists one after another
-
-pub joined : (taken xs ys : List Name) → with_names taken (xs ++ ys) ≡ with_names (with_names taken xs) ys
-joined taken [] ys = refl
-joined taken (x ∷ xs) ys = joined (with_name taken x) xs ys
+pub ruleset table = (has_any, taken_more)
 
 -- ---- each name is taken
 

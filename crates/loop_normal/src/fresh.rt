@@ -5,10 +5,10 @@ ghost use Rattle.c_tree.specs.BareOf.{bare_program};
 ghost use Rattle.loop_normal.specs.DrawnNames as names;
 ghost use Rattle.loop_normal.specs.SourceNames.{beside_program};
 
-use crate::source_names::program_names;
-use crate::taken_names::TakenNames;
+use crate::source_names::source_names;
 use c_tree::checked::Checked;
 use c_tree::name::Name;
+use indexmap::IndexSet;
 use std::alloc::{AllocError, Global};
 use std::marker::Model;
 
@@ -17,7 +17,7 @@ use std::marker::Model;
 #[derive(Debug, Drop)]
 pub struct Fresh {
     alloc: Global,
-    taken: TakenNames,
+    taken: IndexSet<Name>,
     /// ASCII codes, the least significant first.
     digits: Vec<u8>,
 }
@@ -27,7 +27,7 @@ impl Model for Fresh {
 
     ghost Value = { FreshNames };
 
-    ghost view = { λ fresh. record { taken = fresh.taken; digits = fresh.digits.items } };
+    ghost view = { λ fresh. record { taken = fresh.taken.keys; digits = fresh.digits.items } };
 }
 
 impl Fresh {
@@ -35,7 +35,7 @@ impl Fresh {
     pub fn new(alloc: Global, source: &Checked) -> Result<Fresh, AllocError>
         ensures { IfOk result (λ fresh. fresh ≡ beside_program (bare_program source.now)) }
     {
-        let taken = program_names(alloc, source.program())?;
+        let taken = source_names(alloc, source.program())?;
         let digits = Vec::from_slice(alloc, b"0")?;
         Ok(Fresh {
             alloc,
@@ -58,7 +58,8 @@ impl Fresh {
         Ok(name)
     }
 
-    /// The digits of the number that is drawn next.
+    /// The digits of the number that is drawn next: at most as many numbers are tried as names are taken, each in one step.
+    #[tactic(auto, using(crate::proofs::TakenNames::table))]
     fn untaken(&self) -> Result<Vec<u8>, AllocError>
         ensures { IfOk result (λ digits. digits.items ≡ names.drawn_digits self.now) }
     {
@@ -66,7 +67,7 @@ impl Fresh {
         let mut left = self.taken.as_slice();
         while let [_, rest @ ..] = left {
             let name = numbered(self.alloc, digits.as_slice())?;
-            if !self.taken.has(&name) {
+            if !self.taken.contains(&name) {
                 return Ok(digits);
             }
             digits = next_digits(self.alloc, digits.as_slice())?;

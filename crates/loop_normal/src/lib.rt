@@ -9,4 +9,3 @@ pub mod pieces;
 pub mod ranges;
 mod source_names;
 pub mod statements;
-mod taken_names;
