@@ -18,4 +18,3 @@ pub mod Admitted
 pub mod Gathered
 pub mod StatementMore
 pub mod ItemMore
-pub mod HeldHeads
