@@ -7,4 +7,3 @@ mod heads;
 pub mod laws;
 mod plans;
 pub mod rewrite;
-mod source_names;

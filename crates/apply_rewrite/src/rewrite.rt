@@ -14,7 +14,6 @@ ghost use Rattle.apply_rewrite.specs.Rewritten.{ProgramRewritten};
 
 use crate::carrying::carried_all;
 use crate::entering::{enter_params, pass_item};
-use crate::source_names::fresh_beside;
 use c_tree::checked::Checked;
 use c_tree::tree::{Item, ItemList, Param, Program, StmtList};
 use canonical_nests::admitted::Admitted;
@@ -127,9 +126,8 @@ pub fn rewrite(alloc: Global, source: Admitted) -> Result<Checked, AllocError>
     ensures structure { IfOk result (λ answer. skeleton (bare_program answer) ≡ skeleton (bare_program source)) }
 {
     let checked = source.into_checked();
-    let program = checked.into_program();
-    let mut fresh = fresh_beside(alloc, &program)?;
-    let Program { items } = program;
+    let mut fresh = Fresh::new(alloc, &checked)?;
+    let Program { items } = checked.into_program();
     let items = carried_items(alloc, items, &mut fresh)?;
     Ok(Checked::new(Program { items }))
 }

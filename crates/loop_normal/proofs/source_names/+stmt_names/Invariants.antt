@@ -1,7 +1,7 @@
 use Rattle.std.proofs.Common.{◌≡◌, ◌++◌, drop}
 use Rattle.c_tree.specs.BareOf.{bare_stmts}
-use Rattle.carried_out.specs.SourceNames.{stmts_names}
-use Rattle.apply_rewrite.proofs.source_names.+stmt_names.Given as goal
+use Rattle.loop_normal.specs.SourceNames.{stmts_names}
+use Rattle.loop_normal.proofs.source_names.+stmt_names.Given as goal
 
 -- What was gathered, and what is left.
 abbrev pub invariant-stmts_names-each : goal.invariant-stmts_names-each

@@ -1,7 +1,7 @@
 use Rattle.std.proofs.Common.{◌≡◌, ◌++◌, drop, map}
 use Rattle.c_tree.specs.BareOf.{bare_top}
-use Rattle.carried_out.specs.SourceNames.{program_names}
-use Rattle.apply_rewrite.proofs.source_names.program_names.Given as goal
+use Rattle.loop_normal.specs.SourceNames.{program_names}
+use Rattle.loop_normal.proofs.source_names.program_names.Given as goal
 
 -- What was gathered, and what is left.
 abbrev pub invariant-each : goal.invariant-each

@@ -1,7 +1,7 @@
 use Rattle.std.proofs.Common.{◌≡◌, ◌++◌, drop}
 use Rattle.c_tree.specs.BareOf.{bare_exprs}
-use Rattle.carried_out.specs.SourceNames.{exprs_names}
-use Rattle.apply_rewrite.proofs.source_names.+expr_names.Given as goal
+use Rattle.loop_normal.specs.SourceNames.{exprs_names}
+use Rattle.loop_normal.proofs.source_names.+expr_names.Given as goal
 
 -- What was gathered, and what is left.
 abbrev pub invariant-exprs_names-each : goal.invariant-exprs_names-each

@@ -3,12 +3,13 @@
 ghost use Rattle.std.specs.Prelude.{◌≡◌, ◌++◌, IfOk, OnOk, map};
 ghost use Rattle.std.specs.Option.{option_map};
 ghost use Rattle.c_tree.specs.BareOf.{bare_expr, bare_exprs, bare_head, bare_param, bare_program, bare_stmt, bare_stmts, bare_target, bare_top, maybe_stmt};
-ghost use Rattle.carried_out.specs.SourceNames as n;
+ghost use Rattle.loop_normal.specs.SourceNames as n;
+ghost use Rattle.loop_normal.specs.TakenNames as t;
 
 use c_tree::boxed::Boxed;
 use c_tree::name::Name;
 use c_tree::tree::{Expr, ForHead, Item, Param, Program, Stmt, Target};
-use loop_normal::fresh::Fresh;
+use indexmap::IndexSet;
 use std::alloc::{AllocError, Global};
 
 /// Puts a name at the end, where it begins as fresh names do.
@@ -223,7 +224,7 @@ fn item_names(alloc: Global, item: &Item, names: &mut Vec<Name>) -> Result<(), A
 
 /// The names of a program that begin as fresh names do, in the order of the text, each as often as it stands there.
 #[tactic(auto, using(crate::proofs::Gathered::gathered))]
-fn program_names(alloc: Global, program: &Program) -> Result<Vec<Name>, AllocError>
+pub(crate) fn program_names(alloc: Global, program: &Program) -> Result<Vec<Name>, AllocError>
     ensures { IfOk result (λ names. names.items ≡ n.program_names (bare_program program.now)) }
 {
     let mut names = Vec::new(alloc);
@@ -234,10 +235,14 @@ fn program_names(alloc: Global, program: &Program) -> Result<Vec<Name>, AllocErr
     Ok(names)
 }
 
-/// Fresh names beside a program: none of them is a name of its variables, functions and defines.
-pub(crate) fn fresh_beside(alloc: Global, program: &Program) -> Result<Fresh, AllocError>
-    ensures { IfOk result (λ fresh. fresh ≡ n.beside_program (bare_program program.now)) }
+/// Names in a table, each once, in their order.
+#[tactic(auto, using(crate::proofs::TakenNames::table))]
+pub(crate) fn in_table(alloc: Global, names: Vec<Name>) -> Result<IndexSet<Name>, AllocError>
+    ensures { IfOk result (λ taken. taken.keys ≡ t.taken_names names.items) }
 {
-    let names = program_names(alloc, program)?;
-    Fresh::beside(alloc, names)
+    let mut taken = IndexSet::new(alloc);
+    'each: for name in names {
+        taken.insert(name)?;
+    }
+    Ok(taken)
 }

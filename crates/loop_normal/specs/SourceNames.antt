@@ -3,6 +3,7 @@ use Rattle.std.specs.Prelude.{List, [], ◌∷◌, ◌++◌, Option, Some, None,
 use Rattle.std.specs.List.{starts_with}
 use Rattle.c_tree.specs.Bare.{Name, Expr, num, read, item, un, bin, cond, cast, Exprs, no_exprs, more_exprs, Target, target, Stmt, decl, set, step, print, input, if_, if_else, while_, do_, for_, block, break_, continue_, empty, omp, call, Stmts, no_stmts, more_stmts, MaybeStmt, no_stmt, a_stmt, Head, head, Param, Top, define, extern_, global, function, main, Program}
 use Rattle.loop_normal.specs.DrawnNames.{FreshNames, no_draws}
+use Rattle.loop_normal.specs.TakenNames.{taken_names}
 
 abbrev pub begins_like_fresh : Name → Bool
 begins_like_fresh x = starts_with nat_eq x (codes "omp_t")
@@ -79,4 +80,4 @@ program_names (i ∷ is) = top_names i ++ program_names is
 
 -- the fresh names beside a program, before any is drawn
 abbrev pub beside_program : Program → FreshNames
-beside_program p = no_draws (program_names p)
+beside_program p = no_draws (taken_names (program_names p))

@@ -7,7 +7,7 @@ use Rattle.c_tree.specs.declared.tree.Param.{Param}
 use Rattle.c_tree.specs.declared.tree.Item.{Item}
 use Rattle.c_tree.proofs.Walks.{rest_more, rest_none}
 use Rattle.c_tree.proofs.Heads.{bare_head_out}
-use Rattle.carried_out.specs.SourceNames.{expr_names, exprs_names, stmt_names, stmts_names, kept, params_names, top_names, program_names}
+use Rattle.loop_normal.specs.SourceNames.{expr_names, exprs_names, stmt_names, stmts_names, kept, params_names, top_names, program_names}
 
 pub exprs_more : (xs : List Expr) (i : ℕ) (x : Expr) → i < length xs → x ≡ slice_index_or xs i x → exprs_names (bare_exprs (drop i xs)) ≡ expr_names (bare_expr x) ++ exprs_names (bare_exprs (drop (i + 1) xs))
 exprs_more xs i = rest_more (λ ys. exprs_names (bare_exprs ys)) xs i
