@@ -17,3 +17,4 @@ pub mod Drawn
 pub mod Parts
 pub mod TakenNames
 pub mod Gathered
+pub mod LoopFields

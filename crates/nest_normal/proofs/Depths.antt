@@ -3,7 +3,7 @@ use Rattle.std.proofs.Common.{◌≡◌, refl, sym, ap, ℕ, zero, suc, ◌-◌,
 use Rattle.c_tree.specs.Bare.{Name, Expr, Stmts}
 use Rattle.loop_normal.specs.Gens.{GenLoop, gen_loop, Inner}
 use Rattle.nest_normal.specs.NestTexts.{at_loop, at_below, zero_at, zero_below}
-use Rattle.nest_normal.proofs.LoopFields.{bare_loop_out}
+use Rattle.loop_normal.proofs.LoopFields.{bare_loop_out}
 
 one_less : (d : ℕ) → suc d - 1 ≡ d
 one_less d = omega arith

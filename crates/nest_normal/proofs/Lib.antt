@@ -16,4 +16,3 @@ pub mod Shown
 pub mod Lists
 pub mod Depths
 pub mod SpelledWalks
-pub mod LoopFields

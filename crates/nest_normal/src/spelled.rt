@@ -121,7 +121,7 @@ fn in_maybe(name: &Name, stmt: &Option<Boxed<Stmt>>) -> bool
 }
 
 /// Whether a nest spells the name.
-#[tactic(auto, using(crate::proofs::LoopFields::fields))]
+#[tactic(auto, using(loop_normal::proofs::LoopFields::fields))]
 #[cycle(in_loop)]
 pub(crate) fn in_loop(name: &Name, looped: &GenLoop) -> bool
     ensures { result ≡ s.in_loop name.now (bare_loop looped.now) }

@@ -36,7 +36,7 @@ fn declares(stmts: &[Stmt], name: &Name) -> bool
     false
 }
 
-#[tactic(auto, using(crate::proofs::LoopFields::fields))]
+#[tactic(auto, using(loop_normal::proofs::LoopFields::fields))]
 fn lets_declare(looped: &GenLoop, name: &Name) -> bool
     ensures { result ≡ t.declares name.now (lets_of (bare_loop looped.now)) }
 {

@@ -5,7 +5,7 @@ use Rattle.loop_normal.specs.GenOf.{bare_body, bare_loop}
 use Rattle.loop_normal.specs.declared.generated.GenLoop.{out-GenLoop}
 use Rattle.nest_normal.specs.NestTexts.{zero_at}
 use Rattle.nest_normal.proofs.Depths.{zero_next}
-use Rattle.nest_normal.proofs.LoopFields.{bare_loop_out}
+use Rattle.loop_normal.proofs.LoopFields.{bare_loop_out}
 use Rattle.nest_normal.proofs.known_count.+zero_at.Goals as goal
 
 pub zero_at-returns : goal.zero_at-returns
