@@ -3,9 +3,10 @@ use Rattle.std.proofs.Common.{◌≡◌, ◌≤◌, ◌++◌, sym, ap, ◌∙◌
 use Rattle.std.specs.Vec.Iter.{into_iter_items}
 use denote.Param.Weighed.{most}
 use Rattle.c_semantics.specs.Structure.Skeleton.{scope_after}
-use Rattle.c_tree.specs.BareOf.{bare_program, bare_stmt, bare_stmts}
+use Rattle.c_tree.specs.BareOf.{bare_stmt, bare_stmts}
 use Rattle.c_tree.proofs.tree.Stmt.TheLaws.{the_size}
-use Rattle.canonical_nests.specs.Canonical.{program_defines}
+use Rattle.carried_out.specs.CarriedOut.{carried}
+use Rattle.loop_counts.specs.Visible.{Visible}
 use Rattle.apply_rewrite.proofs.Scopes.{out_of_list}
 use Rattle.apply_rewrite.proofs.StatementMore.{left_step, nest_other, next_no_larger, next_well_formed, next_whole, nowhere, scope_step, tree_step}
 use Rattle.apply_rewrite.proofs.carrying.+carrying.Goals as goal
@@ -16,39 +17,51 @@ carried_all-carried-requires t c =
     let whole : all ≡ c.each.yielded ++ into_iter_items c.each.stmt-iterator = c.each.invariant.whole in
     let next = whole ∙ ap (λ zs. c.each.yielded ++ zs) c.in-Some.ensures.steps.0 in
     let less : the_size c.in-Some.stmt ≤ most the_size all = next_no_larger the_size c.each.yielded c.in-Some.stmt (into_iter_items c.next.new.self) all next in
-    (first_of (omega arith, search rules), (c.requires.defines_held, next_well_formed c.each.yielded c.in-Some.stmt (into_iter_items c.next.new.self) all next c.requires.well_formed))
+    (first_of (omega arith, search rules), next_well_formed c.each.yielded c.in-Some.stmt (into_iter_items c.next.new.self) all next c.requires)
 
 pub carried_all-each-preserved : goal.carried_all-each-preserved
 carried_all-each-preserved t c =
-    let ds = program_defines (bare_program c.args.defines.now) in
+    let ds = c.args.scope.now.defines in
+    let s = c.args.scope.now.state in
+    let u = c.each.scope.state in
+    let a = bare_stmt c.in-Some.stmt in
     let kept = c.each.invariant in
     let said = c.in_ok-stmt.ensures in
+    let tree : bare_stmt c.in_ok-stmt.stmt ≡ (carried ds u a c.each.fresh).tree = said.tree ∙ ap (λ es. (carried es u a c.each.fresh).tree) kept.defines in
+    let left : c.carried.new.fresh ≡ (carried ds u a c.each.fresh).left = said.left ∙ ap (λ es. (carried es u a c.each.fresh).left) kept.defines in
+    let after : c.declare.new.scope ≡ record c.each.scope { state = scope_after (bare_stmt c.in_ok-stmt.stmt) u } =
+    c.in_ok-declare.ensures ∙ ap (λ (v : Visible). record v { state = scope_after (bare_stmt c.in_ok-stmt.stmt) v.state }) said.scope in
     record {
       whole = next_whole c.each.yielded c.in-Some.stmt (into_iter_items c.next.new.self) (into_iter_items c.each.stmt-iterator) c.args.stmts kept.whole c.in-Some.ensures.steps.0;
-      scope =
-          scope_step ds c.args.scope.now c.each.scope c.each.yielded c.in-Some.stmt c.args.fresh.now c.each.fresh kept.scope kept.left c.add_stmt.new.self c.in_ok-stmt.stmt said.tree
-          (c.in_ok-add_stmt.ensures ∙ ap (scope_after (bare_stmt c.in_ok-stmt.stmt)) said.scope);
-      tree = tree_step ds c.args.scope.now c.each.scope c.each.yielded c.in-Some.stmt c.args.fresh.now c.each.fresh kept.scope kept.left c.each.done c.push.new.self c.in_ok-stmt.stmt kept.tree said.tree c.in_ok-push.ensures.ok;
-      left = left_step ds c.args.scope.now c.each.scope c.each.yielded c.in-Some.stmt c.args.fresh.now c.each.fresh kept.scope kept.left c.carried.new.fresh said.left;
+      defines = ap (λ (v : Visible). v.defines) after ∙ kept.defines;
+      state =
+          scope_step ds s u c.each.yielded c.in-Some.stmt c.args.fresh.now c.each.fresh kept.state kept.left c.declare.new.scope.state c.in_ok-stmt.stmt tree
+          (ap (λ (v : Visible). v.state) after);
+      tree = tree_step ds s u c.each.yielded c.in-Some.stmt c.args.fresh.now c.each.fresh kept.state kept.left c.each.done c.push.new.self c.in_ok-stmt.stmt kept.tree tree c.in_ok-push.ensures.ok;
+      left = left_step ds s u c.each.yielded c.in-Some.stmt c.args.fresh.now c.each.fresh kept.state kept.left c.carried.new.fresh left;
     }
 
 pub nest-returns-in-None-clause-tree : goal.nest-returns-in-None-clause-tree
 nest-returns-in-None-clause-tree t c =
-    c.no_code.ensures ∙ sym (ap (λ m. m.tree) (nest_other (program_defines (bare_program c.args.defines.now)) c.args.scope.now c.args.stmts c.args.fresh.now c.in-None.ensures))
+    c.no_code.ensures ∙ sym (ap (λ m. m.tree) (nest_other c.args.scope.now.defines c.args.scope.now.state c.args.stmts c.args.fresh.now c.in-None.ensures))
 
 pub nest-returns-in-None-clause-left : goal.nest-returns-in-None-clause-left
 nest-returns-in-None-clause-left t c =
-    sym (ap (λ m. m.left) (nest_other (program_defines (bare_program c.args.defines.now)) c.args.scope.now c.args.stmts c.args.fresh.now c.in-None.ensures))
+    sym (ap (λ m. m.left) (nest_other c.args.scope.now.defines c.args.scope.now.state c.args.stmts c.args.fresh.now c.in-None.ensures))
 
 pub nest_in-returns-in_default-clause-tree : goal.nest_in-returns-in_default-clause-tree
 nest_in-returns-in_default-clause-tree t c =
     c.no_code.ensures
-    ∙ sym (ap (λ m. m.tree) (nowhere (program_defines (bare_program c.args.defines.now)) c.args.scope.now c.args.stmt c.args.fresh.now c.in_default.not-For c.in_default.not-Block c.in_default.not-Omp))
+    ∙ sym (ap (λ m. m.tree) (nowhere c.args.scope.now.defines c.args.scope.now.state c.args.stmt c.args.fresh.now c.in_default.not-For c.in_default.not-Block c.in_default.not-Omp))
 
 pub nest_in-returns-in_default-clause-left : goal.nest_in-returns-in_default-clause-left
 nest_in-returns-in_default-clause-left t c =
-    sym (ap (λ m. m.left) (nowhere (program_defines (bare_program c.args.defines.now)) c.args.scope.now c.args.stmt c.args.fresh.now c.in_default.not-For c.in_default.not-Block c.in_default.not-Omp))
+    sym (ap (λ m. m.left) (nowhere c.args.scope.now.defines c.args.scope.now.state c.args.stmt c.args.fresh.now c.in_default.not-For c.in_default.not-Block c.in_default.not-Omp))
 
 pub carried_all-returns-clause-scope : goal.carried_all-returns-clause-scope
 carried_all-returns-clause-scope t c =
-    c.keep.ensures ∙ out_of_list (bare_stmts c.each.yielded) c.args.scope.now c.each.scope c.len-len.result c.each.invariant.scope c.len-len.ensures
+    c.keep.ensures
+    ∙ (λ i. record {
+      defines = c.each.invariant.defines i;
+      state = out_of_list (bare_stmts c.each.yielded) c.args.scope.now.state c.each.scope.state c.len-len.result c.each.invariant.state c.len-len.ensures i;
+    })

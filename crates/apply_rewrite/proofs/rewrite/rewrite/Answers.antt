@@ -8,13 +8,13 @@ use Rattle.apply_rewrite.proofs.rewrite.rewrite.Goals.{After-new}
 
 pub new-requires : goal.new-requires
 new-requires c =
-    let p = c.into_program-program in
+    let p = c.into_program in
     let q = c.into_checked-checked in
     (stands c.args.source q.result p.result (record { items = c.in_ok-items.items }) q.ensures.program q.ensures.admitted p.ensures.program p.ensures.checked c.requires (search rules)).checked
 
 stood : (c : After-new) → Stands c.args.source c.new.result
 stood c =
-    let p = c.into_program-program in
+    let p = c.into_program in
     let q = c.into_checked-checked in
     let text : bare_program (record { items = c.in_ok-items.items }) ≡ carried_out (bare_program c.args.source) = search rules in
     stands c.args.source q.result p.result c.new.result q.ensures.program q.ensures.admitted p.ensures.program p.ensures.checked c.requires (ap bare_program c.new.ensures ∙ text)
