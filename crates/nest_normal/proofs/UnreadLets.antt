@@ -16,7 +16,7 @@ use Rattle.nest_normal.specs.NestDenotes.{IsSteady, SteadyBelow}
 use Rattle.nest_normal.proofs.WithoutVariable.{but_dropped, loop_without, steady_without}
 
 -- a Boolean by its two values
-by_value : (P : Bool → Type 0) → (b : Bool) → (b ≡ true → P true) → (b ≡ false → P false) → P b
+pub by_value : (P : Bool → Type 0) → (b : Bool) → (b ≡ true → P true) → (b ≡ false → P false) → P b
 by_value P true h k = h refl
 by_value P false h k = k refl
 
