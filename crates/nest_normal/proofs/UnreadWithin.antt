@@ -138,5 +138,5 @@ module _ (own : List Name) where
     declared_unread (o ∷ os) (z ∷ zs) l g a h =
         let d = declaration_of o in
         let none = λ (x : Name) (m : has_name own x ≡ true).
-            ap (λ t. t || in_expr x o.value) (g.0 x (fresh x m)) ∙ others_expr x o.value (names_more (λ y. Apart y own) (λ y. Differ y x) (λ y b. apart_own y x own b m) o.value a.0) in
+        ap (λ t. t || in_expr x o.value) (g.0 x (fresh x m)) ∙ others_expr x o.value (names_more (λ y. Apart y own) (λ y. Differ y x) (λ y b. apart_own y x own b m) o.value a.0) in
         ap (declare_in d) (declared_unread os zs l g.2 a.1 h) ∙ declare_unread d (declared os l) (spells_no_let d none (declared os l) (own_declared os l h))

@@ -4,8 +4,8 @@
 pub mod known_count;
 pub mod laws;
 pub mod round;
+mod spelled;
 #[cfg(test)]
 mod tests;
-mod spelled;
 mod unread;
 mod variables;

@@ -19,7 +19,9 @@ fn in_expr(name: &Name, e: &Expr) -> bool
         Expr::Num { .. } => false,
         Expr::Read { name: other, .. } => other == name,
         Expr::Item {
-            name: other, subs, ..
+            name: other,
+            subs,
+            ..
         } => other == name || in_exprs(name, subs.as_slice()),
         Expr::Un { of, .. } => in_expr(name, of.get()),
         Expr::Cast { of, .. } => in_expr(name, of.get()),
@@ -64,7 +66,9 @@ fn in_stmt(name: &Name, stmt: &Stmt) -> bool
 {
     match stmt {
         Stmt::Decl {
-            name: other, init, ..
+            name: other,
+            init,
+            ..
         } => other == name || in_option(name, init),
         Stmt::Set { target, value, .. } => in_target(name, target) || in_expr(name, value),
         Stmt::Step { target, .. } => in_target(name, target),
@@ -84,7 +88,9 @@ fn in_stmt(name: &Name, stmt: &Stmt) -> bool
         Stmt::Omp { body, .. } => in_stmts(name, body.as_slice()),
         Stmt::Break { .. } | Stmt::Continue { .. } | Stmt::Empty { .. } => false,
         Stmt::Call {
-            name: other, args, ..
+            name: other,
+            args,
+            ..
         } => other == name || in_exprs(name, args.as_slice()),
     }
 }

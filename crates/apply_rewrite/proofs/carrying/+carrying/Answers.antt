@@ -79,12 +79,12 @@ carried-returns-after-no-2-clause-tree t c =
     let first = c.in_ok-yes-in-If.ensures in
     let step = if_else_tree v.defines v.state c.args.stmt c.in-If.test c.in-If.yes c.in_ok-yes-in-If.yes c.in-If.span f in
     elim c.match-no-2.branch [
-      carried-in-None w ↦
-        ap (λ o. bare_stmt (If c.in-If.test c.in_ok-yes-in-If.yes o c.in-If.span)) w.no-is
-        ∙ if_tree v.defines v.state c.args.stmt c.in-If.test c.in-If.yes c.in_ok-yes-in-If.yes c.in-If.span f (c.in-If.is ∙ ap (λ o. If c.in-If.test c.in-If.yes o c.in-If.span) w.in-None.is) first.tree
-    | carried-in-Some+in_ok-carried_all-in-Some w ↦
-        ap (λ o. bare_stmt (If c.in-If.test c.in_ok-yes-in-If.yes o c.in-If.span)) w.no-is
-        ∙ step w.in-Some.no w.in_ok-carried_all-in-Some.field-0 c.carried_all.new.fresh w.carried_all-in-Some.new.fresh c.carried_all.new.scope (c.in-If.is ∙ ap (λ o. If c.in-If.test c.in-If.yes o c.in-If.span) w.in-Some.is) first.scope first.left first.tree w.in_ok-carried_all-in-Some.ensures.tree
+      | carried-in-None w ↦
+          ap (λ o. bare_stmt (If c.in-If.test c.in_ok-yes-in-If.yes o c.in-If.span)) w.no-is
+          ∙ if_tree v.defines v.state c.args.stmt c.in-If.test c.in-If.yes c.in_ok-yes-in-If.yes c.in-If.span f (c.in-If.is ∙ ap (λ o. If c.in-If.test c.in-If.yes o c.in-If.span) w.in-None.is) first.tree
+      | carried-in-Some+in_ok-carried_all-in-Some w ↦
+          ap (λ o. bare_stmt (If c.in-If.test c.in_ok-yes-in-If.yes o c.in-If.span)) w.no-is
+          ∙ step w.in-Some.no w.in_ok-carried_all-in-Some.field-0 c.carried_all.new.fresh w.carried_all-in-Some.new.fresh c.carried_all.new.scope (c.in-If.is ∙ ap (λ o. If c.in-If.test c.in-If.yes o c.in-If.span) w.in-Some.is) first.scope first.left first.tree w.in_ok-carried_all-in-Some.ensures.tree
     ]
 
 pub carried-returns-after-no-2-clause-left : goal.carried-returns-after-no-2-clause-left
@@ -94,11 +94,11 @@ carried-returns-after-no-2-clause-left t c =
     let first = c.in_ok-yes-in-If.ensures in
     let step = if_else_left v.defines v.state c.args.stmt c.in-If.test c.in-If.yes c.in_ok-yes-in-If.yes c.in-If.span f in
     elim c.match-no-2.branch [
-      carried-in-None w ↦
-        w.fresh-is ∙ if_left v.defines v.state c.args.stmt c.in-If.test c.in-If.yes c.in_ok-yes-in-If.yes c.in-If.span f (c.in-If.is ∙ ap (λ o. If c.in-If.test c.in-If.yes o c.in-If.span) w.in-None.is) c.carried_all.new.fresh first.left
-    | carried-in-Some+in_ok-carried_all-in-Some w ↦
-        w.fresh-is
-        ∙ step w.in-Some.no w.in_ok-carried_all-in-Some.field-0 c.carried_all.new.fresh w.carried_all-in-Some.new.fresh c.carried_all.new.scope (c.in-If.is ∙ ap (λ o. If c.in-If.test c.in-If.yes o c.in-If.span) w.in-Some.is) first.scope first.left w.in_ok-carried_all-in-Some.ensures.left
+      | carried-in-None w ↦
+          w.fresh-is ∙ if_left v.defines v.state c.args.stmt c.in-If.test c.in-If.yes c.in_ok-yes-in-If.yes c.in-If.span f (c.in-If.is ∙ ap (λ o. If c.in-If.test c.in-If.yes o c.in-If.span) w.in-None.is) c.carried_all.new.fresh first.left
+      | carried-in-Some+in_ok-carried_all-in-Some w ↦
+          w.fresh-is
+          ∙ step w.in-Some.no w.in_ok-carried_all-in-Some.field-0 c.carried_all.new.fresh w.carried_all-in-Some.new.fresh c.carried_all.new.scope (c.in-If.is ∙ ap (λ o. If c.in-If.test c.in-If.yes o c.in-If.span) w.in-Some.is) first.scope first.left w.in_ok-carried_all-in-Some.ensures.left
     ]
 
 pub nest_in-returns-in_ok-body-in-For-clause-tree : goal.nest_in-returns-in_ok-body-in-For-clause-tree
