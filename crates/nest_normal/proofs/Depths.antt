@@ -1,5 +1,5 @@
 -- One loop down a nest.
-use Rattle.std.proofs.Common.{◌≡◌, refl, sym, ap, ℕ, zero, suc, ◌-◌, ◌<◌, arith}
+use Rattle.std.proofs.Common.{◌≡◌, sym, ap, ℕ, zero, suc, ◌-◌, ◌<◌, arith}
 use Rattle.c_tree.specs.Bare.{Name, Expr, Stmts}
 use Rattle.loop_normal.specs.Gens.{GenLoop, gen_loop, Inner}
 use Rattle.nest_normal.specs.NestTexts.{at_loop, at_below, zero_at, zero_below}

@@ -16,3 +16,4 @@ pub mod Shown
 pub mod Lists
 pub mod Depths
 pub mod SpelledWalks
+pub mod FirstParts

@@ -1,15 +1,15 @@
 -- A nest denotes the same without the declarations that nothing reads.
-use Rattle.std.proofs.Common.{◌≡◌, refl, ap, ◌∙◌, ℕ, List, ◌∷◌, Some, None, Bool, true, false, not}
+use Rattle.std.proofs.Common.{◌≡◌, refl, ℕ, List, ◌∷◌, Some, Bool, true, false, not}
 use Rattle.std.specs.Prelude.{if◌then◌else◌}
 use Rattle.c_tree.specs.Bare.{Name, Expr, decl, Stmt, Stmts, no_stmts, more_stmts}
 use Rattle.c_tree.specs.declared.tree.Ty.TheVariants.{Long}
-use Rattle.c_semantics.specs.Meaning.State.{Var, find}
+use Rattle.c_semantics.specs.Meaning.State.{Var}
 use Rattle.c_semantics.specs.Meaning.SimpleStatements.{Env}
 use Rattle.c_semantics.specs.Loops.IterationTrees.{Tree}
 use Rattle.c_semantics.specs.Loops.Execution.{Body}
 use Rattle.loop_normal.specs.Frames.{long, AgreesBut}
 use Rattle.loop_normal.specs.Gens.{GenLoop, gen_loop, Inner, Nest, Seq, let_stmt}
-use Rattle.loop_normal.specs.Denotes.{Calm, Value, LetsRun, LoopMeans, InnerMeans, LetsApart, lets_of}
+use Rattle.loop_normal.specs.Denotes.{Calm, Value, LoopMeans, InnerMeans, LetsApart, lets_of}
 use Rattle.loop_normal.proofs.Weaker.{put_let_means}
 use Rattle.nest_normal.specs.Spelled.{in_loop, before, before_if_read, all_if_read, without_unread, below_without_unread}
 use Rattle.nest_normal.specs.NestDenotes.{IsSteady, SteadyBelow}

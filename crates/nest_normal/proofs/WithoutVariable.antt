@@ -1,5 +1,5 @@
 -- What doesn't spell a fresh variable denotes the same in a frame without it.
-use Rattle.std.proofs.Common.{◌≡◌, refl, sym, ap, ◌∙◌, subst, ℕ, ◌+◌, List, [], ◌∷◌, ◌++◌, length, drop, Option, Some, None, Bool, true, false, ◌||◌, arith}
+use Rattle.std.proofs.Common.{◌≡◌, refl, sym, ap, ◌∙◌, subst, ℕ, ◌+◌, List, [], ◌∷◌, ◌++◌, length, Option, Some, None, Bool, true, false, ◌||◌, arith}
 use Rattle.std.specs.Prelude.{bytes_eq, if◌then◌else◌}
 use Rattle.std.proofs.lemmas.List.{length-append}
 use Rattle.std.proofs.lemmas.Slice.Eq.{bytes_eq-Decides}
@@ -13,7 +13,7 @@ use Rattle.c_semantics.specs.Meaning.Statements.{exec_all}
 use Rattle.c_semantics.specs.Loops.IterationTrees.{Tree}
 use Rattle.c_semantics.specs.Loops.Execution.{Body, run_tree}
 use Rattle.c_semantics.specs.Laws.Apart.{Differ, Beside, here, there, BesideInFrame, RunsAlike}
-use Rattle.c_semantics.specs.Laws.Names.{Names, UsesAll}
+use Rattle.c_semantics.specs.Laws.Names.{UsesAll}
 use Rattle.c_semantics.proofs.Apart.{beside_local, called_local, one_longer, not_shorter}
 use Rattle.c_semantics.proofs.Evals.{type_same, eval_same}
 use Rattle.c_semantics.proofs.Simulation.{exec_alike}

@@ -18,7 +18,7 @@ use Rattle.loop_normal.specs.Templates.{LoopNames, SourceLoop, source_front, lea
 use Rattle.loop_normal.specs.Denotes.{Calm, LoopMeans, GenMeans, Undeclared}
 use Rattle.loop_normal.specs.FreshNames.{Among, Source, NamesNone, AreApart, Apart}
 use Rattle.loop_normal.specs.Laws.{source_loop}
-use Rattle.nest_normal.specs.NestTexts.{nest_of, innermost, hides, loop_round, nest_round, at_loop, counted_to, known_at, zero_at, with_count}
+use Rattle.nest_normal.specs.NestTexts.{nest_of, innermost, hides, loop_round, nest_round, known_at, zero_at, with_count}
 use Rattle.nest_normal.specs.NestDenotes.{HasNone, IsSteady, NestMeans}
 use Rattle.nest_normal.specs.KnownCounts.{Turns, AllTurns, IsCounterFor, UndeclaredIf, AllFresh, DeclaresOwn}
 

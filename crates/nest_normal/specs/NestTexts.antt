@@ -15,6 +15,11 @@ nest_of front l = record { front = front; parts = more_parts (Looped l) no_parts
 abbrev pub innermost : LoopNames → SourceLoop → Stmts → GenLoop
 innermost m h body = gen_loop no_stmts m.counter (ll 0) (read m.count) (Seq (more_parts (Plain (more_stmts (source_var m h) (only (block body)))) no_parts))
 
+-- a part, changed where it is a nest
+abbrev pub on_loop : (GenLoop → GenLoop) → Part → Part
+on_loop f (Looped l) = Looped (f l)
+on_loop f (Plain as') = Plain as'
+
 -- ---- a loop round a nest
 
 abbrev pub declares_name : Name → Stmt → Bool

@@ -1,17 +1,18 @@
 //! The normal form of a loop round a nest.
 
-ghost use Rattle.std.specs.Prelude.{◌≡◌, IfOk, OnOk};
+ghost use Rattle.std.specs.Prelude.{◌≡◌, IfOk, OnOk, Some};
+ghost use Rattle.c_tree.specs.Bare.{decl};
 ghost use Rattle.c_tree.specs.BareOf.{bare_stmt};
 ghost use Rattle.loop_normal.specs.DrawnNames as names;
-ghost use Rattle.loop_normal.specs.GenOf.{bare_gen, bare_loop, bare_parts};
+ghost use Rattle.loop_normal.specs.GenOf.{bare_gen, bare_loop, bare_part, bare_parts};
 ghost use Rattle.loop_normal.specs.SourceOf.{source_of};
-ghost use Rattle.loop_normal.specs.Templates.{on_first};
-ghost use Rattle.nest_normal.specs.NestTexts.{counted_round, nest_round};
+ghost use Rattle.loop_normal.specs.Templates.{on_first, value_expr};
+ghost use Rattle.nest_normal.specs.NestTexts.{counted_round, nest_round, on_loop};
 
 use crate::variables::declare_in;
 use c_tree::boxed::Boxed;
 use c_tree::name::Name;
-use c_tree::tree::Stmt;
+use c_tree::tree::{Stmt, Ty};
 use loop_normal::fresh::Fresh;
 use loop_normal::generated::{Gen, GenBody, GenLoop, GenPart, PartList};
 use loop_normal::normal::{
@@ -25,44 +26,72 @@ use std::alloc::{AllocError, Global};
 /// The loop round a nest, with its variable declared below the innermost loop.
 fn loop_round(
     alloc: Global,
+    names: &LoopNames,
     nest: GenLoop,
-    counter: Name,
-    count: Name,
     variable: Stmt,
 ) -> Result<GenLoop, AllocError>
-    ensures { IfOk result (λ answer. bare_loop answer ≡ counted_round counter count (bare_stmt variable) (bare_loop nest)) }
+    ensures { IfOk result (λ answer. bare_loop answer ≡ counted_round names.now.counter names.now.count (bare_stmt variable) (bare_loop nest)) }
 {
     let nest = declare_in(alloc, nest, variable)?;
     Ok(GenLoop {
         lets: no_stmts(alloc),
-        counter,
+        counter: names.counter.copy(alloc)?,
         from: literal(0),
-        to: read(alloc, &count)?,
+        to: read(alloc, &names.count)?,
         inner: GenBody::Nest(Boxed::new(alloc, nest)?),
     })
 }
 
+/// The loop round a part, where that is a nest.
+fn part_round(
+    alloc: Global,
+    names: &LoopNames,
+    part: GenPart,
+    variable: Stmt,
+) -> Result<GenPart, AllocError>
+    ensures { IfOk result (λ answer. bare_part answer ≡ on_loop (counted_round names.now.counter names.now.count (bare_stmt variable)) (bare_part part)) }
+{
+    match part {
+        GenPart::Loop(nest) => {
+            let looped = loop_round(alloc, names, nest.into_inner(), variable)?;
+            Ok(GenPart::Loop(Boxed::new(alloc, looped)?))
+        }
+        GenPart::Plain(list) => Ok(GenPart::Plain(list)),
+    }
+}
+
 /// The loop round the first part, where that is a nest.
+#[tactic(auto, using(crate::proofs::FirstParts::changed))]
 fn first_round(
     alloc: Global,
+    names: &LoopNames,
     parts: PartList,
-    counter: Name,
-    count: Name,
     variable: Stmt,
 ) -> Result<PartList, AllocError>
-    ensures { IfOk result (λ answer. bare_parts answer ≡ on_first (counted_round counter count (bare_stmt variable)) (bare_parts parts)) }
+    ensures { IfOk result (λ answer. bare_parts answer ≡ on_first (counted_round names.now.counter names.now.count (bare_stmt variable)) (bare_parts parts)) }
 {
-    let (first, rest) = match split_first(parts) {
-        None => return Ok(no_parts(alloc)),
-        Some(split) => split,
-    };
-    match first {
-        GenPart::Loop(nest) => {
-            let looped = loop_round(alloc, nest.into_inner(), counter, count, variable)?;
-            part_before(GenPart::Loop(Boxed::new(alloc, looped)?), rest)
+    match split_first(parts) {
+        None => Ok(no_parts(alloc)),
+        Some((first, rest)) => {
+            let first = part_round(alloc, names, first, variable)?;
+            part_before(first, rest)
         }
-        GenPart::Plain(list) => part_before(GenPart::Plain(list), rest),
     }
+}
+
+/// The loop round the first part, with the value of its variable in each turn.
+fn parts_round(
+    alloc: Global,
+    names: &LoopNames,
+    ty: Ty,
+    var: Name,
+    step: i64,
+    parts: PartList,
+) -> Result<PartList, AllocError>
+    ensures { IfOk result (λ answer. bare_parts answer ≡ on_first (counted_round names.now.counter names.now.count (decl ty var (Some (value_expr ty step names.now.begin names.now.counter)))) (bare_parts parts)) }
+{
+    let value = turn_value(alloc, ty, step, &names.begin, &names.counter)?;
+    first_round(alloc, names, parts, declaration(ty, var, value))
 }
 
 /// The normal form of a canonical loop round a nest, given the loop's head and the normal form `inner` of the nest (OpenMP
@@ -92,8 +121,8 @@ pub fn normal_round(
         step,
     } = head;
     let drawn = draw_names(fresh)?;
-    let value = turn_value(alloc, ty, step, &drawn.begin, &drawn.counter)?;
-    let variable = declaration(ty, var, value);
+    let Gen { front, parts } = inner;
+    let parts = parts_round(alloc, &drawn, ty, var, step, parts)?;
     let range = SourceRange {
         ty,
         lb,
@@ -101,14 +130,6 @@ pub fn normal_round(
         test,
         step,
     };
-    let Gen { front, parts } = inner;
     let front = bounds_front(alloc, &drawn, range, front)?;
-    let LoopNames {
-        begin: _,
-        end: _,
-        count,
-        counter,
-    } = drawn;
-    let parts = first_round(alloc, parts, counter, count, variable)?;
     Ok(Gen { front, parts })
 }

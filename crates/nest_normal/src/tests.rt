@@ -4,7 +4,7 @@ use crate::known_count::fix_count;
 use crate::round::normal_round;
 use c_tree::boxed::Boxed;
 use c_tree::name::Name;
-use c_tree::tree::{BinOp, Expr, Stmt, Ty};
+use c_tree::tree::{BinOp, Expr, Stmt, StmtList, Ty};
 use loop_normal::fresh::Fresh;
 use loop_normal::generated::{Gen, GenBody, GenLoop, GenPart};
 use loop_normal::normal::{OwnedLoop, normal_leaf};
@@ -119,28 +119,37 @@ fn from_three(alloc: Global) -> Result<Gen, AllocError> {
     one_part(alloc, looped)
 }
 
-/// `long long a = 8; long long b = a; long long d = 0;` before a loop from 0 to `b` with the counter `c`, round one from 0 to
-/// `d` with the counter `e`.
-fn behind_declarations(alloc: Global) -> Result<Gen, AllocError> {
+/// `long long a = 8; long long b = a; long long d = 0;`
+fn declarations(alloc: Global) -> Result<StmtList, AllocError> {
     let a = Name::new(alloc, b"a")?;
-    let b = Name::new(alloc, b"b")?;
-    let d = Name::new(alloc, b"d")?;
-    let inner = GenLoop {
+    let value = read(alloc, &a)?;
+    let d = declaration(Ty::Long, Name::new(alloc, b"d")?, literal(0));
+    let last = stmt_before(d, no_stmts(alloc))?;
+    let b = declaration(Ty::Long, Name::new(alloc, b"b")?, value);
+    let lets = stmt_before(b, last)?;
+    stmt_before(declaration(Ty::Long, a, literal(8)), lets)
+}
+
+/// A loop from 0 to `d` with the counter `e`.
+fn to_the_last(alloc: Global) -> Result<GenLoop, AllocError> {
+    Ok(GenLoop {
         lets: no_stmts(alloc),
         counter: Name::new(alloc, b"e")?,
         from: literal(0),
-        to: read(alloc, &d)?,
+        to: read(alloc, &Name::new(alloc, b"d")?)?,
         inner: GenBody::Seq(no_parts(alloc)),
-    };
-    let to = read(alloc, &b)?;
-    let last = stmt_before(declaration(Ty::Long, d, literal(0)), no_stmts(alloc))?;
-    let lets = stmt_before(declaration(Ty::Long, b, read(alloc, &a)?), last)?;
+    })
+}
+
+/// Three declarations before a loop from 0 to `b` with the counter `c`, round one from 0 to `d` with the counter `e`.
+fn behind_declarations(alloc: Global) -> Result<Gen, AllocError> {
+    let inner = Boxed::new(alloc, to_the_last(alloc)?)?;
     let looped = GenLoop {
-        lets: stmt_before(declaration(Ty::Long, a, literal(8)), lets)?,
+        lets: declarations(alloc)?,
         counter: Name::new(alloc, b"c")?,
         from: literal(0),
-        to,
-        inner: GenBody::Nest(Boxed::new(alloc, inner)?),
+        to: read(alloc, &Name::new(alloc, b"b")?)?,
+        inner: GenBody::Nest(inner),
     };
     one_part(alloc, looped)
 }

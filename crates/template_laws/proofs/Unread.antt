@@ -1,7 +1,7 @@
 -- Without the declarations that nothing reads, a nest breaks no name rule that it didn't break.
-use Rattle.std.proofs.Common.{◌≡◌, refl, sym, ap, ◌∙◌, Some, None, Bool, true, false, not}
-use Rattle.std.specs.Prelude.{bytes_eq, is_some, if◌then◌else◌}
-use Rattle.c_tree.specs.Bare.{Name, Expr, Stmt, decl, Stmts, no_stmts, more_stmts}
+use Rattle.std.proofs.Common.{◌≡◌, sym, ap, ◌∙◌, Some, None, Bool, true, false, not}
+use Rattle.std.specs.Prelude.{is_some, if◌then◌else◌}
+use Rattle.c_tree.specs.Bare.{Name, Stmt, decl, Stmts, no_stmts, more_stmts}
 use Rattle.c_tree.specs.NameRules.Scopes.{Scope, find, is_taken, declare, a_scalar, inner, after_stmt}
 use Rattle.c_tree.specs.declared.name_rule.NameRule.TheVariants.{N2}
 use Rattle.c_semantics.specs.Laws.Apart.{Differ}

@@ -1,7 +1,7 @@
 -- Of the loop's fields, what is below it.
-use Rattle.std.proofs.Common.{rules, ◌≡◌, sym, ap, ◌∙◌, ◌<◌}
+use Rattle.std.proofs.Common.{rules, sym, ap, ◌∙◌, ◌<◌}
 use Rattle.c_tree.specs.BareOf.{bare_expr, bare_stmts}
-use Rattle.loop_normal.specs.GenOf.{bare_body, bare_loop}
+use Rattle.loop_normal.specs.GenOf.{bare_body}
 use Rattle.loop_normal.specs.declared.generated.GenLoop.{out-GenLoop}
 use Rattle.nest_normal.specs.NestTexts.{zero_at}
 use Rattle.nest_normal.proofs.Depths.{zero_next}

@@ -1,5 +1,5 @@
 -- The first part that declares the name decides.
-use Rattle.std.proofs.Common.{◌≡◌, sym, ap, ◌∙◌, ◌+◌, drop, Bool, true, false}
+use Rattle.std.proofs.Common.{◌≡◌, sym, ap, ◌∙◌, ◌+◌, drop, true, false}
 use Rattle.std.specs.Prelude.{if◌then◌else◌}
 use Rattle.loop_normal.specs.Gens.{parts_stmts}
 use Rattle.loop_normal.specs.GenOf.{bare_part, bare_parts}
