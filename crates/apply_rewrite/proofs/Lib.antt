@@ -15,7 +15,5 @@ pub mod Skeletons
 pub mod WellFormedCode
 pub mod RunsAlike
 pub mod Admitted
-pub mod Gathered
 pub mod StatementMore
 pub mod ItemMore
-pub mod HeldHeads

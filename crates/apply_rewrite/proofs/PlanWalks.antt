@@ -1,27 +1,14 @@
--- Plans of the code: the plan of a directive, and what a walk over items has left.
+-- What plans make of code, and what a walk over items has left.
 use Rattle.std.proofs.Common.{◌≡◌, ◌∙◌, sym, ap, ◌<◌, ◌≤◌, ◌+◌, ℕ, List, map, length, drop, slice_index_or}
-use Rattle.c_tree.specs.BareOf.{bare_directive}
-use Rattle.c_tree.specs.PlacedOf.{placed_directive}
-use Rattle.c_tree.specs.declared.tree.Directive.{Directive}
-use Rattle.c_tree.proofs.Forgotten.Directives.{bare_directive_is}
 use Rattle.c_tree.proofs.Walks.{rest_more, rest_none}
-use Rattle.c_semantics.specs.Meaning.Expressions.{Define}
-use Rattle.c_semantics.specs.Loops.Directives.{plan_of}
-use Rattle.canonical_nests.specs.LoopRules.PlacedPlans.{PlacedPlan, placed_plan, forget_plan, forget_items}
+use Rattle.canonical_nests.specs.LoopRules.PlacedPlans.{forget_plan, forget_items}
 use Rattle.canonical_nests.specs.Plans.{seen_transformation, seen_plan, seen_item, gather}
 use Rattle.canonical_nests.specs.declared.plan.Applied.{Applied, out-Applied}
 use Rattle.canonical_nests.specs.declared.plan.Plan.{Plan, out-Plan}
 use Rattle.canonical_nests.proofs.Applied.{seen_item_out}
-use Rattle.canonical_nests.proofs.ForgottenPlans.{plan_is}
-use Rattle.canonical_nests.proofs.HeldTrees.{directive_held}
 use Rattle.canonical_nests.proofs.Planned.{seen_plan_out}
 use Rattle.loop_normal.specs.Gens.{Gen}
 use Rattle.carried_out.specs.CarriedOut.{Made, transformed, planned, items_applied}
-
-pub directive_plan : (ds : List Define) (d : Directive) (p : PlacedPlan) → p ≡ placed_plan ds (placed_directive d) → forget_plan p ≡ plan_of ds (bare_directive d)
-directive_plan ds d p e = ap forget_plan e ∙ (plan_is ds (placed_directive d) ∙ ap (plan_of ds) (sym (bare_directive_is d)))
-
-pub ruleset plans = (directive_plan, directive_held)
 
 -- ---- what items make of code
 

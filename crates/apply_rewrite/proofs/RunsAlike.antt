@@ -2,7 +2,7 @@
 use Rattle.std.proofs.Common.{[], arith}
 use Rattle.c_semantics.specs.Meaning.State.{nowhere}
 use Rattle.loop_normal.specs.DrawnNames.{AreDigits}
-use Rattle.carried_out.specs.SourceNames.{beside_program}
+use Rattle.loop_normal.specs.SourceNames.{beside_program}
 use Rattle.carried_out.specs.CarriedOut.{carried_out}
 use Rattle.apply_rewrite.specs.Laws.{CarriedOutRunsAlike}
 use Rattle.apply_rewrite.proofs.Programs.{outcomes_agree}

@@ -1,118 +1,73 @@
--- The last variable of a name, and what is visible when variables are added or taken away.
-use Rattle.std.proofs.Common.{◌≡◌, ◌∙◌, sym, ap, refl, ℕ, zero, suc, ◌+◌, ◌-◌, ◌<◌, ◌≤◌, true, false, List, [], ◌∷◌, ◌++◌, length, take, drop, reverse, map, arith, append_assoc}
-use Rattle.std.proofs.lemmas.List.{reverse-append, length-append, length-reverse, length-drop, take-append-drop, take_all, take_more, map-append}
+-- The types of what is visible, the variables of the file, and what is visible again when a walk leaves a function or a list.
+use Rattle.std.proofs.Common.{◌≡◌, ◌∙◌, sym, ap, refl, ℕ, ◌+◌, ◌-◌, ◌<◌, ◌≤◌, Bool, true, false, List, [], ◌∷◌, ◌++◌, length, drop, map, arith, append_assoc}
+use Rattle.std.proofs.lemmas.List.{length-append}
 use Rattle.std.proofs.Math.Seq.{drop-append_seam}
-use Rattle.std.specs.Prelude.{bytes_eq, is_some, if◌then◌else◌, slice_index_or, Option, Some, None}
-use Rattle.c_tree.specs.Bare.{Name, Stmt, decl, Stmts, no_stmts, more_stmts, Param}
+use Rattle.std.specs.Prelude.{is_some, if◌then◌else◌, slice_index_or, Option, Some, None}
+use Rattle.std.specs.Option.{option_map}
+use Rattle.c_tree.specs.Bare.{Name, Stmt, decl, Stmts, no_stmts, more_stmts, Param, Top, define, extern_, global, function, main}
 use Rattle.c_tree.specs.declared.tree.Ty.{Ty}
 use Rattle.c_tree.specs.BareOf.{bare_param}
 use Rattle.c_tree.specs.declared.tree.Param as code
 use Rattle.c_tree.proofs.Walks.{rest_more, rest_none}
 use Rattle.c_semantics.specs.Meaning.State.{scalar, Cell, Var, State, find, look, or_else, keep, push, with_frame, with_globals}
 use Rattle.c_semantics.specs.Structure.Skeleton.{scope_after}
+use Rattle.c_scopes.specs.Laws.{scope_with}
 use Rattle.c_scopes.specs.Types.{type_held, type_filed, with_params}
-use Rattle.apply_rewrite.specs.ScopeOf.{variable_of, with_global}
-use Rattle.apply_rewrite.specs.declared.scope.Variable.{Variable}
+use Rattle.loop_normal.specs.Templates.{SourceLoop}
+use Rattle.carried_out.specs.CarriedOut.{scope_below}
+use Rattle.loop_counts.specs.Visible.{Visible}
 
--- ---- one more at the end
+-- ---- types
 
-module _ {A B : Type 0} (f : A → B) where
-  map_length : (vs : List A) → length (map f vs) ≡ length vs
-  map_length [] = refl
-  map_length (v ∷ vs) = ap suc (map_length vs)
+-- a variable without a value has its type
+pub held_type : (o : Option Ty) (c : Option Cell) → option_map (λ t. scalar t None) o ≡ c → o ≡ type_held c
+held_type None c e = ap type_held e
+held_type (Some t) c e = ap type_held e
 
-  map_reverse_more : (vs : List A) (v : A) → map f (reverse (vs ++ v ∷ [])) ≡ f v ∷ map f (reverse vs)
-  map_reverse_more vs v = ap (map f) (reverse-append vs (v ∷ []))
+pub ruleset typed = (held_type)
 
-  before : (vs : List A) (left : ℕ) (v : A) → 0 < left → left ≤ length vs → v ≡ slice_index_or vs (left - 1) v
-      → map f (reverse (take left vs)) ≡ f v ∷ map f (reverse (take (left - 1) vs))
-  before vs left v above le is =
-      let lt : left - 1 < length vs = omega arith in
-      let e : left - 1 + 1 ≡ left = omega arith in
-      ap (λ n. map f (reverse (take n vs))) (sym e)
-      ∙ (ap (λ ys. map f (reverse ys)) (take_more vs (left - 1) v lt ∙ ap (λ w. take (left - 1) vs ++ w ∷ []) (sym is))
-      ∙ map_reverse_more (take (left - 1) vs) v)
+-- ---- variables of the file
 
-  all : (vs : List A) (left : ℕ) → left ≡ length vs → map f (reverse (take left vs)) ≡ map f (reverse vs)
-  all vs left e = ap (λ n. map f (reverse (take n vs))) e ∙ ap (λ ys. map f (reverse ys)) (take_all (length vs) vs (omega arith))
+-- one more variable of the file: of two with one name the first is seen
+abbrev pub with_global : State → Name → Ty → State
+with_global s x t = if is_some (type_filed s x) then s else with_globals (record { name = x; cell = scalar t None } ∷ s.globals) s
 
-  none_left : (vs : List A) (left : ℕ) → left ≤ 0 → map f (reverse (take left vs)) ≡ []
-  none_left vs zero le = refl
-  none_left vs (suc left) le = absurd (omega (arith, le))
+module _ (s : State) (x : Name) (t : Ty) (o : Option Ty) (outside : s.frame ≡ []) (e : option_map (λ u. scalar u None) o ≡ look s x) where
+  filed_is : o ≡ type_filed s x
+  filed_is = held_type o (find x s.globals) (e ∙ ap (λ f. or_else (find x f) (find x s.globals)) outside)
 
--- ---- the search
+  chosen : (b : Bool) → is_some o ≡ b → with_global s x t ≡ (if b then s else with_globals (record { name = x; cell = scalar t None } ∷ s.globals) s)
+  chosen b h =
+      ap {B = State} (λ c. if c then s else with_globals (record { name = x; cell = scalar t None } ∷ s.globals) s) (ap is_some (sym filed_is) ∙ h)
 
-abbrev found_in : List Variable → Name → ℕ → Option Cell
-found_in vs x n = find x (map variable_of (reverse (take n vs)))
+  global_there : is_some o ≡ true → s ≡ with_global s x t
+  global_there h = sym (chosen true h)
 
-pub type_there : (vs : List Variable) (x : Name) (left : ℕ) (v : Variable) → 0 < left → left ≤ length vs → v ≡ slice_index_or vs (left - 1) v → bytes_eq x v.name ≡ true
-    → find x (map variable_of (reverse (take left vs))) ≡ Some (scalar v.ty None)
-type_there vs x left v above le is hit =
-    ap (find x) (before variable_of vs left v above le is)
-    ∙ ap {B = Option Cell} (λ b. if b then Some (scalar v.ty None) else found_in vs x (left - 1)) hit
+  global_new : is_some o ≡ false → with_globals (record { name = x; cell = scalar t None } ∷ s.globals) s ≡ with_global s x t
+  global_new h = sym (chosen false h)
 
-pub type_before : (vs : List Variable) (x : Name) (left : ℕ) (v : Variable) → 0 < left → left ≤ length vs → v ≡ slice_index_or vs (left - 1) v → bytes_eq x v.name ≡ false
-    → find x (map variable_of (reverse (take left vs))) ≡ find x (map variable_of (reverse (take (left - 1) vs)))
-type_before vs x left v above le is miss =
-    ap (find x) (before variable_of vs left v above le is)
-    ∙ ap {B = Option Cell} (λ b. if b then Some (scalar v.ty None) else found_in vs x (left - 1)) miss
+module _ (v : Visible) (x : Name) (t : Ty) (o : Option Ty) (outside : v.state.frame ≡ []) (e : option_map (λ u. scalar u None) o ≡ look v.state x) where
+  pub file_there : is_some o ≡ true → v ≡ record v { state = with_global v.state x t }
+  file_there h = λ i. record v { state = global_there v.state x t o outside e h i }
 
-pub type_all : (vs : List Variable) (x : Name) (left : ℕ) → left ≡ length vs → find x (map variable_of (reverse (take left vs))) ≡ find x (map variable_of (reverse vs))
-type_all vs x left e = ap (find x) (all variable_of vs left e)
+  pub file_new : (w : Visible) → w ≡ record v { state = with_globals (record { name = x; cell = scalar t None } ∷ v.state.globals) v.state } → is_some o ≡ false
+      → w ≡ record v { state = with_global v.state x t }
+  file_new w new h = new ∙ (λ i. record v { state = global_new v.state x t o outside e h i })
 
-pub type_none : (vs : List Variable) (x : Name) (left : ℕ) → left ≤ 0 → find x (map variable_of (reverse (take left vs))) ≡ None
-type_none vs x left le = ap (find x) (none_left variable_of vs left le)
+pub ruleset filed = (file_there, file_new)
 
-pub held_there : (o : Option Cell) (t : Ty) → o ≡ Some (scalar t None) → Some t ≡ type_held o
-held_there o t e = sym (ap type_held e)
-
-pub held_none : (o : Option Cell) → o ≡ None → None ≡ type_held o
-held_none o e = sym (ap type_held e)
-
-pub ruleset searches = (type_there, type_before, type_all, type_none, held_there, held_none)
-
--- ---- in a state
-
-pub seen_in_frame : (s : State) (x : Name) (t : Ty) → Some t ≡ type_held (find x s.frame) → Some t ≡ type_held (look s x)
-seen_in_frame s x t = by (find x s.frame)
+pub same_frame : (s : State) (i : Top) → s.frame ≡ [] → (scope_with s i).frame ≡ []
+same_frame s (global t x dims e) h = by (is_some (type_filed s x))
   where
-    by : (o : Option Cell) → Some t ≡ type_held o → Some t ≡ type_held (or_else o (find x s.globals))
-    by None e = cc
-    by (Some c) e = e
+    by : (b : Bool) → (if b then s else with_globals (record { name = x; cell = scalar t None } ∷ s.globals) s).frame ≡ []
+    by true = h
+    by false = h
+same_frame s (define x minus k t) h = h
+same_frame s (extern_ p) h = h
+same_frame s (function x ps a) h = h
+same_frame s (main a) h = h
 
-pub seen_in_file : (s : State) (x : Name) (r : Option Ty) → None ≡ type_held (find x s.frame) → r ≡ type_held (find x s.globals) → r ≡ type_held (look s x)
-seen_in_file s x r = by (find x s.frame)
-  where
-    by : (o : Option Cell) → None ≡ type_held o → r ≡ type_held (find x s.globals) → r ≡ type_held (or_else o (find x s.globals))
-    by None e h = h
-    by (Some c) e h = cc
-
-pub ruleset seen = (seen_in_frame, seen_in_file)
-
--- ---- changes
-
-pub variable_more : (vs : List Variable) (v : Variable) → map variable_of (reverse (vs ++ v ∷ [])) ≡ variable_of v ∷ map variable_of (reverse vs)
-variable_more vs v = map_reverse_more variable_of vs v
-
-pub frame_length : (vs : List Variable) → length (map variable_of (reverse vs)) ≡ length vs
-frame_length vs = omega (arith, map_length variable_of (reverse vs), length-reverse vs)
-
-pub frame_kept : (k : ℕ) (vs : List Variable) → map variable_of (reverse (take k vs)) ≡ keep k (map variable_of (reverse vs))
-frame_kept k vs =
-    let f = variable_of in
-    let cut : reverse vs ≡ reverse (drop k vs) ++ reverse (take k vs) = ap reverse (sym (take-append-drop k vs)) ∙ reverse-append (take k vs) (drop k vs) in
-    let whole : map f (reverse vs) ≡ map f (reverse (drop k vs)) ++ map f (reverse (take k vs)) = ap (map f) cut ∙ map-append f (reverse (drop k vs)) (reverse (take k vs)) in
-    let over : length (map f (reverse vs)) - k ≡ length (map f (reverse (drop k vs))) =
-    omega (arith, map_length f (reverse vs), map_length f (reverse (drop k vs)), length-reverse vs, length-reverse (drop k vs), length-drop k vs) in
-    sym (ap (λ n. drop n (map f (reverse vs))) over ∙ (ap (drop (length (map f (reverse (drop k vs))))) whole ∙ drop-append_seam (map f (reverse (drop k vs))) (map f (reverse (take k vs)))))
-
-pub global_there : (s : State) (x : Name) (t : Ty) → is_some (type_filed s x) ≡ true → s ≡ with_global s x t
-global_there s x t e = sym (ap (λ b. if b then s else with_globals (record { name = x; cell = scalar t None } ∷ s.globals) s) e)
-
-pub global_new : (s : State) (x : Name) (t : Ty) → is_some (type_filed s x) ≡ false → with_globals (record { name = x; cell = scalar t None } ∷ s.globals) s ≡ with_global s x t
-global_new s x t e = sym (ap (λ b. if b then s else with_globals (record { name = x; cell = scalar t None } ∷ s.globals) s) e)
-
-pub ruleset changes = (variable_more, frame_length, frame_kept, global_there, global_new)
+pub ruleset items = (same_frame)
 
 -- ---- what is above the variables of a place
 
@@ -161,7 +116,11 @@ out_of_function ps s k e = dropped s (with_params ps s) k (above_params ps s) e
 pub out_of_list : (as' : Stmts) (s u : State) (k : ℕ) → u ≡ all_after as' s → k ≡ length s.frame → with_frame (keep k u.frame) u ≡ s
 out_of_list as' s u k is e = ap (λ z. with_frame (keep k z.frame) z) is ∙ dropped s (all_after as' s) k (above_all as' s) e
 
-pub ruleset leaving = (out_of_function)
+pub out_of_loop : (s : State) (l : Option SourceLoop) (k : ℕ) → k ≡ length s.frame → with_frame (keep k (scope_below s l).frame) (scope_below s l) ≡ s
+out_of_loop s None k e = dropped s s k (above_self s) e
+out_of_loop s (Some l) k e = dropped s (push l.var (scalar l.ty None) s) k (above_pushed l.var (scalar l.ty None) s) e
+
+pub ruleset leaving = (out_of_function, out_of_loop)
 
 -- ---- parameters
 

@@ -3,7 +3,9 @@ use Rattle.std.proofs.Common.{List, [], ◌∷◌, ◌++◌, Option, Some, None}
 use Rattle.c_tree.specs.Bare.{Name, Expr, num, read, item, un, bin, cond, cast, Exprs, no_exprs, more_exprs, Target, target, Stmt, decl, set, step, print, input, if_, if_else, while_, do_, for_, block, break_, continue_, empty, omp, call, Stmts, no_stmts, more_stmts, head, MaybeStmt, no_stmt, a_stmt, define, extern_, global, function, main, Program}
 use Rattle.c_semantics.specs.Laws.Names.{Names, NamesEach, NamesIf, NamesIn, Uses, UsesAll, UsesIf}
 use Rattle.loop_normal.specs.DrawnNames.{AreDigits}
-use Rattle.carried_out.specs.SourceNames.{kept, expr_names, exprs_names, option_names, target_names, stmt_names, stmts_names, part_names, head_names, params_names, program_names, beside_program}
+use Rattle.loop_normal.specs.SourceNames.{kept, expr_names, exprs_names, option_names, target_names, stmt_names, stmts_names, part_names, head_names, params_names, program_names, beside_program}
+use Rattle.loop_normal.specs.TakenNames.{taken_names}
+use Rattle.loop_normal.proofs.TakenNames.{all_taken}
 use Rattle.apply_rewrite.proofs.NamesMore.{AnyCall}
 use Rattle.carried_out.proofs.SpentNames.{Spent}
 use Rattle.carried_out.proofs.KnownNames.{Known, Within, known_spent, first, second, kept_known}
@@ -80,4 +82,4 @@ module _ (taken : List Name) where
 
 -- the names of a program's bodies are spent before any draw
 pub source_spent : (p : Program) → AreDigits (beside_program p).digits → BodiesUse (Spent (beside_program p)) p
-source_spent p d = bodies_more (Known (program_names p)) (Spent (beside_program p)) (λ x k. known_spent (beside_program p) d x k) p (program_known (program_names p) p (λ z i. i))
+source_spent p d = bodies_more (Known (taken_names (program_names p))) (Spent (beside_program p)) (λ x k. known_spent (beside_program p) d x k) p (program_known (taken_names (program_names p)) p (all_taken (program_names p)))

@@ -1,11 +1,12 @@
 -- Carrying out one statement more, and what a walk over statements by value knows of them.
-use Rattle.std.proofs.Common.{◌≡◌, ◌≢◌, refl, sym, ap, ◌∙◌, subst, ℕ, ◌≤◌, max, Some, None, List, [], ◌∷◌, ◌++◌, length, append_assoc, slice_index_or, arith}
+use Rattle.std.proofs.Common.{◌≡◌, ◌≢◌, refl, sym, ap, ◌∙◌, subst, ℕ, ◌≤◌, max, Option, Some, None, List, [], ◌∷◌, ◌++◌, length, append_assoc, slice_index_or, arith}
 use denote.Param.Weighed.{most, most-append}
 use Rattle.c_tree.specs.Bare as b
 use Rattle.c_tree.specs.Bare.{more_stmts}
-use Rattle.c_tree.specs.BareOf.{bare_stmt, bare_stmts, stmt_layer, head_layer}
+use Rattle.c_tree.specs.BareOf.{bare_expr, bare_head, bare_stmt, bare_stmts, stmt_layer, head_layer}
 use Rattle.c_tree.specs.WellFormed.{WellFormedStmt, WellFormedStmts}
 use Rattle.c_tree.specs.declared.tree.Directive.{Directive}
+use Rattle.c_tree.specs.declared.tree.Expr.{Expr}
 use Rattle.c_tree.specs.declared.tree.ForHead.{ForHead}
 use Rattle.c_tree.specs.declared.tree.Span.{Span}
 use Rattle.c_tree.specs.declared.tree.Stmt.{Stmt, Stmt-F, roll-Stmt, out-Stmt, roll-out-Stmt, fold-roll-Stmt}
@@ -14,12 +15,13 @@ use Rattle.c_tree.specs.declared.tree.Stmt.TheOpen as layer
 use Rattle.c_semantics.specs.Meaning.State.{State}
 use Rattle.c_semantics.specs.Meaning.Expressions.{Define}
 use Rattle.c_semantics.specs.Structure.Skeleton.{scope_after}
+use Rattle.loop_counts.specs.Visible.{Visible}
 use Rattle.loop_normal.specs.Gens.{join}
-use Rattle.loop_normal.specs.Templates.{only}
+use Rattle.loop_normal.specs.Templates.{SourceLoop, only}
 use Rattle.loop_normal.specs.DrawnNames.{FreshNames}
 use Rattle.loop_normal.proofs.Trees.{stmts_join}
 use Rattle.apply_rewrite.proofs.Scopes.{all_after}
-use Rattle.carried_out.specs.CarriedOut.{carried, carried_all, nest, nest_in, no_code}
+use Rattle.carried_out.specs.CarriedOut.{loop_at, scope_below, made_leaf, carried, carried_all, nest, nest_in, no_code}
 
 done_more : (done : List Stmt) (y : Stmt) → bare_stmts (done ++ y ∷ []) ≡ join (bare_stmts done) (only (bare_stmt y))
 done_more done y = stmts_join done (y ∷ [])
@@ -28,6 +30,17 @@ done_more done y = stmts_join done (y ∷ [])
 after_more : (xs : List Stmt) (x : Stmt) (s : State) → all_after (bare_stmts (xs ++ x ∷ [])) s ≡ scope_after (bare_stmt x) (all_after (bare_stmts xs) s)
 after_more [] x s = refl
 after_more (y ∷ xs) x s = after_more xs x (scope_after (bare_stmt y) s)
+
+-- ---- statements of several parts
+
+bare_for : (h : ForHead) (ts : List Stmt) (at : Span) → bare_stmt (v.For h ts at) ≡ b.for_ (bare_head h) (bare_stmts ts)
+bare_for h ts at = ap bare_stmt (sym (v.rolls-For h ts at)) ∙ fold-roll-Stmt b.Stmt b.Head stmt_layer head_layer (layer.For h ts at)
+
+bare_if : (e : Expr) (ts : List Stmt) (at : Span) → bare_stmt (v.If e ts None at) ≡ b.if_ (bare_expr e) (bare_stmts ts)
+bare_if e ts at = ap bare_stmt (sym (v.rolls-If e ts None at)) ∙ fold-roll-Stmt b.Stmt b.Head stmt_layer head_layer (layer.If e ts None at)
+
+bare_if_else : (e : Expr) (ts us : List Stmt) (at : Span) → bare_stmt (v.If e ts (Some us) at) ≡ b.if_else (bare_expr e) (bare_stmts ts) (bare_stmts us)
+bare_if_else e ts us at = ap bare_stmt (sym (v.rolls-If e ts (Some us) at)) ∙ fold-roll-Stmt b.Stmt b.Head stmt_layer head_layer (layer.If e ts (Some us) at)
 
 module _ (ds : List Define) where
   -- a declaration stays one, and nothing else becomes one
@@ -75,6 +88,35 @@ module _ (ds : List Define) where
     pub scope_step : (w : State) (y : Stmt) → bare_stmt y ≡ (carried ds u (bare_stmt x) g).tree → w ≡ scope_after (bare_stmt y) u → w ≡ all_after (bare_stmts (xs ++ x ∷ [])) s
     scope_step w y one e =
         e ∙ ap (λ a. scope_after a u) one ∙ carried_after u (bare_stmt x) g u ∙ ap (scope_after (bare_stmt x)) seen ∙ sym (after_more xs x s)
+
+  -- the code of a loop, made of its head's parts and of its body where the loop's variable is visible
+  pub nest_step : (s : State) (x : Stmt) (h : ForHead) (ts : List Stmt) (at : Span) (body : List Stmt) (f left : FreshNames) (found : Option SourceLoop) →
+      x ≡ v.For h ts at → found ≡ loop_at ds s (bare_head h) →
+      bare_stmts body ≡ (carried_all ds (scope_below s found) (bare_stmts ts) f).tree → left ≡ (carried_all ds (scope_below s found) (bare_stmts ts) f).left →
+      made_leaf found (record { tree = bare_stmts body; left = left }) ≡ nest_in ds s (bare_stmt x) f
+  nest_step s x h ts at body f left found is e t l =
+      (λ i. made_leaf found (record { tree = t i; left = l i })) ∙ ap (λ o. made_leaf o (carried_all ds (scope_below s o) (bare_stmts ts) f)) e
+      ∙ sym (ap (λ a. nest_in ds s a f) (ap bare_stmt is ∙ bare_for h ts at))
+
+  -- an `if` from its branches
+  module _ (s : State) (x : Stmt) (e : Expr) (ys zs : List Stmt) (at : Span) (f : FreshNames) where
+    pub if_tree : x ≡ v.If e ys None at → bare_stmts zs ≡ (carried_all ds s (bare_stmts ys) f).tree → bare_stmt (v.If e zs None at) ≡ (carried ds s (bare_stmt x) f).tree
+    if_tree is t = bare_if e zs at ∙ ap (b.if_ (bare_expr e)) t ∙ sym (ap (λ a. (carried ds s a f).tree) (ap bare_stmt is ∙ bare_if e ys at))
+
+    pub if_left : x ≡ v.If e ys None at → (left : FreshNames) → left ≡ (carried_all ds s (bare_stmts ys) f).left → left ≡ (carried ds s (bare_stmt x) f).left
+    if_left is left l = l ∙ sym (ap (λ a. (carried ds s a f).left) (ap bare_stmt is ∙ bare_if e ys at))
+
+    -- the other branch is carried out with the names that are left, where the same is visible
+    module _ (ns ms : List Stmt) (between left : FreshNames) (u : Visible) (is : x ≡ v.If e ys (Some ns) at) (same : u ≡ record { defines = ds; state = s }) (l : between ≡ (carried_all ds s (bare_stmts ys) f).left) where
+      pub if_else_tree : bare_stmts zs ≡ (carried_all ds s (bare_stmts ys) f).tree → bare_stmts ms ≡ (carried_all u.defines u.state (bare_stmts ns) between).tree → bare_stmt (v.If e zs (Some ms) at) ≡ (carried ds s (bare_stmt x) f).tree
+      if_else_tree t o =
+          bare_if_else e zs ms at ∙ (λ i. b.if_else (bare_expr e) (t i) ((o ∙ (λ j. (carried_all (same j).defines (same j).state (bare_stmts ns) (l j)).tree)) i))
+          ∙ sym (ap (λ a. (carried ds s a f).tree) (ap bare_stmt is ∙ bare_if_else e ys ns at))
+
+      pub if_else_left : left ≡ (carried_all u.defines u.state (bare_stmts ns) between).left → left ≡ (carried ds s (bare_stmt x) f).left
+      if_else_left o =
+          o ∙ (λ j. (carried_all (same j).defines (same j).state (bare_stmts ns) (l j)).left)
+          ∙ sym (ap (λ a. (carried ds s a f).left) (ap bare_stmt is ∙ bare_if_else e ys ns at))
 
   -- a list that is not one statement leads to no loop
   pub nest_other : (s : State) (xs : List Stmt) (f : FreshNames) → length xs ≢ 1 → nest ds s (bare_stmts xs) f ≡ no_code f

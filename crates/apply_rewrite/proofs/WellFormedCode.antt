@@ -28,7 +28,7 @@ use Rattle.loop_normal.specs.Gens.{gen_loop, Seq, Looped, Plain, Parts, no_parts
 use Rattle.loop_normal.specs.Templates.{ll, only, SourceLoop, LoopNames, leaf, source_var, count_by, is_up, signed_literal, value_expr, begins_at_zero, on_first}
 use Rattle.loop_normal.specs.DrawnNames.{FreshNames, next_digits, numbered, untaken, drawn_digits, drawn, after_draw, after_draws, loop_names}
 use Rattle.loop_normal.specs.FromZero.{from_zero, after_from_zero}
-use Rattle.carried_out.specs.SourceNames.{beside_program}
+use Rattle.loop_normal.specs.SourceNames.{beside_program}
 use Rattle.permute_reverse.specs.Reversed.{reversed, reversed_gen}
 use Rattle.carried_out.specs.CarriedOut.{Made, made_leaf, variable_type, with_type, where_typed, loop_at, scope_below, in_head, planned, items_applied, carried, carried_all, nest, nest_in, made_reverse, carried_top, carried_items, carried_out}
 use Rattle.carried_out.specs.Reversible.{all_stay_in, is_reversal, is_reversible, are_reversible, is_nest, is_nest_in, are_reversible_items, is_reversible_program}

@@ -1,6 +1,5 @@
 pub mod NoBreaks
 pub mod NoDirectives
-pub mod ScopeOf
 pub mod ReverseStacks
 pub mod Rewritten
 pub mod Laws

@@ -4,19 +4,19 @@
 ghost use Rattle.std.specs.Prelude.{◌≡◌, ◌≢◌, ◌∷◌, [], IfOk, MatchOption, OnOk, length};
 ghost use Rattle.std.specs.Option.{option_map};
 ghost use Rattle.c_tree.specs.Bare as b;
-ghost use Rattle.c_tree.specs.BareOf.{bare_directive, bare_head, bare_program, bare_stmt, bare_stmts};
-ghost use Rattle.c_tree.specs.Constants.{DefinesAreHeld};
+ghost use Rattle.c_tree.specs.BareOf.{bare_directive, bare_head, bare_stmt, bare_stmts};
 ghost use Rattle.c_tree.specs.WellFormed.{WellFormedStmt, WellFormedStmts};
-ghost use Rattle.canonical_nests.specs.Canonical.{program_defines};
 ghost use Rattle.loop_normal.specs.Gens as g;
 ghost use Rattle.loop_normal.specs.GenOf.{bare_gen};
 ghost use Rattle.loop_normal.specs.SourceOf.{source_of};
 ghost use Rattle.carried_out.specs.CarriedOut as c;
 
+use crate::entering::enter_loop;
 use crate::heads::typed_head;
-use crate::plans::{plan, planned};
-use crate::scope::Scope;
-use c_tree::tree::{Directive, ForHead, Program, Stmt, StmtList};
+use crate::plans::planned;
+use c_tree::tree::{Directive, ForHead, Stmt, StmtList};
+use loop_counts::scope::Scope;
+use loop_counts::shapes::{declare, enter};
 use loop_normal::fresh::Fresh;
 use loop_normal::generated::Gen;
 use loop_normal::normal::{OwnedLoop, normal_leaf};
@@ -67,15 +67,13 @@ fn alone(stmts: StmtList) -> Option<Stmt>
 #[cycle(carrying)]
 fn carried(
     alloc: Global,
-    defines: &Program,
     scope: &mut Scope,
     stmt: Stmt,
     fresh: &mut Fresh,
 ) -> Result<Stmt, AllocError>
-    requires defines_held { DefinesAreHeld (bare_program defines.now) }
-    requires well_formed { WellFormedStmt (bare_stmt stmt) }
-    ensures tree { IfOk result (λ answer. bare_stmt answer ≡ (c.carried (program_defines (bare_program defines.now)) scope.old (bare_stmt stmt) fresh.old).tree) }
-    ensures left { OnOk result (fresh.new ≡ (c.carried (program_defines (bare_program defines.now)) scope.old (bare_stmt stmt) fresh.old).left) }
+    requires { WellFormedStmt (bare_stmt stmt) }
+    ensures tree { IfOk result (λ answer. bare_stmt answer ≡ (c.carried scope.old.defines scope.old.state (bare_stmt stmt) fresh.old).tree) }
+    ensures left { OnOk result (fresh.new ≡ (c.carried scope.old.defines scope.old.state (bare_stmt stmt) fresh.old).left) }
     ensures scope { OnOk result (scope.new ≡ scope.old) }
 {
     match stmt {
@@ -85,10 +83,10 @@ fn carried(
             no,
             span,
         } => {
-            let yes = carried_all(alloc, defines, scope, yes, fresh)?;
+            let yes = carried_all(alloc, scope, yes, fresh)?;
             let no = match no {
                 None => None,
-                Some(no) => Some(carried_all(alloc, defines, scope, no, fresh)?),
+                Some(no) => Some(carried_all(alloc, scope, no, fresh)?),
             };
             Ok(Stmt::If {
                 test,
@@ -98,19 +96,19 @@ fn carried(
             })
         }
         Stmt::While { test, body, span } => {
-            let body = carried_all(alloc, defines, scope, body, fresh)?;
+            let body = carried_all(alloc, scope, body, fresh)?;
             Ok(Stmt::While { test, body, span })
         }
         Stmt::Do { body, test, span } => {
-            let body = carried_all(alloc, defines, scope, body, fresh)?;
+            let body = carried_all(alloc, scope, body, fresh)?;
             Ok(Stmt::Do { body, test, span })
         }
         Stmt::For { head, body, span } => {
-            let body = carried_in_head(alloc, defines, scope, body, &head, fresh)?;
+            let body = carried_in_head(alloc, scope, body, &head, fresh)?;
             Ok(Stmt::For { head, body, span })
         }
         Stmt::Block { body, span } => {
-            let body = carried_all(alloc, defines, scope, body, fresh)?;
+            let body = carried_all(alloc, scope, body, fresh)?;
             Ok(Stmt::Block { body, span })
         }
         Stmt::Omp {
@@ -118,7 +116,7 @@ fn carried(
             body,
             span: _span,
         } => {
-            let code = construct(alloc, defines, scope, body, &directive, fresh)?;
+            let code = construct(alloc, scope, body, &directive, fresh)?;
             Ok(block(statements(alloc, code)?))
         }
         other => Ok(other),
@@ -129,22 +127,20 @@ fn carried(
 #[cycle(carrying)]
 pub(crate) fn carried_all(
     alloc: Global,
-    defines: &Program,
     scope: &mut Scope,
     stmts: StmtList,
     fresh: &mut Fresh,
 ) -> Result<StmtList, AllocError>
-    requires defines_held { DefinesAreHeld (bare_program defines.now) }
-    requires well_formed { WellFormedStmts (bare_stmts stmts) }
-    ensures tree { IfOk result (λ answer. bare_stmts answer ≡ (c.carried_all (program_defines (bare_program defines.now)) scope.old (bare_stmts stmts) fresh.old).tree) }
-    ensures left { OnOk result (fresh.new ≡ (c.carried_all (program_defines (bare_program defines.now)) scope.old (bare_stmts stmts) fresh.old).left) }
+    requires { WellFormedStmts (bare_stmts stmts) }
+    ensures tree { IfOk result (λ answer. bare_stmts answer ≡ (c.carried_all scope.old.defines scope.old.state (bare_stmts stmts) fresh.old).tree) }
+    ensures left { OnOk result (fresh.new ≡ (c.carried_all scope.old.defines scope.old.state (bare_stmts stmts) fresh.old).left) }
     ensures scope { OnOk result (scope.new ≡ scope.old) }
 {
     let len = scope.len();
     let mut done = StmtList::new(alloc);
     'each: for stmt in stmts.into_items() {
-        let stmt = carried(alloc, defines, scope, stmt, fresh)?;
-        scope.add_stmt(alloc, &stmt)?;
+        let stmt = carried(alloc, scope, stmt, fresh)?;
+        declare(scope, &stmt)?;
         done.push(stmt)?;
     }
     scope.keep(len);
@@ -152,47 +148,45 @@ pub(crate) fn carried_all(
 }
 
 /// The body of a loop with this head, carried out where what the head declares is visible.
+#[tactic(auto, using(loop_counts::proofs::WantedKinds::left))]
 #[cycle(carrying)]
 fn carried_in_head(
     alloc: Global,
-    defines: &Program,
     scope: &mut Scope,
     body: StmtList,
     head: &ForHead,
     fresh: &mut Fresh,
 ) -> Result<StmtList, AllocError>
-    requires defines_held { DefinesAreHeld (bare_program defines.now) }
-    requires well_formed { WellFormedStmts (bare_stmts body) }
-    ensures tree { IfOk result (λ answer. bare_stmts answer ≡ (c.carried_all (program_defines (bare_program defines.now)) (c.in_head (bare_head head.now) scope.old) (bare_stmts body) fresh.old).tree) }
-    ensures left { OnOk result (fresh.new ≡ (c.carried_all (program_defines (bare_program defines.now)) (c.in_head (bare_head head.now) scope.old) (bare_stmts body) fresh.old).left) }
+    requires { WellFormedStmts (bare_stmts body) }
+    ensures tree { IfOk result (λ answer. bare_stmts answer ≡ (c.carried_all scope.old.defines (c.in_head (bare_head head.now) scope.old.state) (bare_stmts body) fresh.old).tree) }
+    ensures left { OnOk result (fresh.new ≡ (c.carried_all scope.old.defines (c.in_head (bare_head head.now) scope.old.state) (bare_stmts body) fresh.old).left) }
     ensures scope { OnOk result (scope.new ≡ scope.old) }
 {
     let len = scope.len();
-    scope.add_head(alloc, head)?;
-    let body = carried_all(alloc, defines, scope, body, fresh)?;
+    enter(scope, head)?;
+    let body = carried_all(alloc, scope, body, fresh)?;
     scope.keep(len);
     Ok(body)
 }
 
 /// The body of a loop that a construct takes, carried out where the loop's variable is visible.
+#[tactic(auto, using(crate::proofs::Scopes::leaving))]
 #[cycle(carrying)]
 fn carried_in_loop(
     alloc: Global,
-    defines: &Program,
     scope: &mut Scope,
     body: StmtList,
     found: &Option<OwnedLoop>,
     fresh: &mut Fresh,
 ) -> Result<StmtList, AllocError>
-    requires defines_held { DefinesAreHeld (bare_program defines.now) }
-    requires well_formed { WellFormedStmts (bare_stmts body) }
-    ensures tree { IfOk result (λ answer. bare_stmts answer ≡ (c.carried_all (program_defines (bare_program defines.now)) (c.scope_below scope.old (option_map source_of found.now)) (bare_stmts body) fresh.old).tree) }
-    ensures left { OnOk result (fresh.new ≡ (c.carried_all (program_defines (bare_program defines.now)) (c.scope_below scope.old (option_map source_of found.now)) (bare_stmts body) fresh.old).left) }
+    requires { WellFormedStmts (bare_stmts body) }
+    ensures tree { IfOk result (λ answer. bare_stmts answer ≡ (c.carried_all scope.old.defines (c.scope_below scope.old.state (option_map source_of found.now)) (bare_stmts body) fresh.old).tree) }
+    ensures left { OnOk result (fresh.new ≡ (c.carried_all scope.old.defines (c.scope_below scope.old.state (option_map source_of found.now)) (bare_stmts body) fresh.old).left) }
     ensures scope { OnOk result (scope.new ≡ scope.old) }
 {
     let len = scope.len();
-    scope.add_loop(alloc, found)?;
-    let body = carried_all(alloc, defines, scope, body, fresh)?;
+    enter_loop(scope, found)?;
+    let body = carried_all(alloc, scope, body, fresh)?;
     scope.keep(len);
     Ok(body)
 }
@@ -201,20 +195,18 @@ fn carried_in_loop(
 #[cycle(carrying)]
 fn construct(
     alloc: Global,
-    defines: &Program,
     scope: &mut Scope,
     body: StmtList,
     directive: &Directive,
     fresh: &mut Fresh,
 ) -> Result<Gen, AllocError>
-    requires defines_held { DefinesAreHeld (bare_program defines.now) }
-    requires well_formed { WellFormedStmt (b.omp (bare_directive directive.now) (bare_stmts body)) }
-    ensures tree { IfOk result (λ code. bare_gen code ≡ (c.nest_in (program_defines (bare_program defines.now)) scope.old (b.omp (bare_directive directive.now) (bare_stmts body)) fresh.old).tree) }
-    ensures left { OnOk result (fresh.new ≡ (c.nest_in (program_defines (bare_program defines.now)) scope.old (b.omp (bare_directive directive.now) (bare_stmts body)) fresh.old).left) }
+    requires { WellFormedStmt (b.omp (bare_directive directive.now) (bare_stmts body)) }
+    ensures tree { IfOk result (λ code. bare_gen code ≡ (c.nest_in scope.old.defines scope.old.state (b.omp (bare_directive directive.now) (bare_stmts body)) fresh.old).tree) }
+    ensures left { OnOk result (fresh.new ≡ (c.nest_in scope.old.defines scope.old.state (b.omp (bare_directive directive.now) (bare_stmts body)) fresh.old).left) }
     ensures scope { OnOk result (scope.new ≡ scope.old) }
 {
-    let plan = plan(alloc, defines, directive)?;
-    let code = nest(alloc, defines, scope, body, fresh)?;
+    let plan = loop_counts::planned::planned(alloc, &*scope, directive)?;
+    let code = nest(alloc, scope, body, fresh)?;
     planned(alloc, &plan, code, fresh)
 }
 
@@ -222,35 +214,31 @@ fn construct(
 #[cycle(carrying)]
 fn nest(
     alloc: Global,
-    defines: &Program,
     scope: &mut Scope,
     stmts: StmtList,
     fresh: &mut Fresh,
 ) -> Result<Gen, AllocError>
-    requires defines_held { DefinesAreHeld (bare_program defines.now) }
-    requires well_formed { WellFormedStmts (bare_stmts stmts) }
-    ensures tree { IfOk result (λ code. bare_gen code ≡ (c.nest (program_defines (bare_program defines.now)) scope.old (bare_stmts stmts) fresh.old).tree) }
-    ensures left { OnOk result (fresh.new ≡ (c.nest (program_defines (bare_program defines.now)) scope.old (bare_stmts stmts) fresh.old).left) }
+    requires { WellFormedStmts (bare_stmts stmts) }
+    ensures tree { IfOk result (λ code. bare_gen code ≡ (c.nest scope.old.defines scope.old.state (bare_stmts stmts) fresh.old).tree) }
+    ensures left { OnOk result (fresh.new ≡ (c.nest scope.old.defines scope.old.state (bare_stmts stmts) fresh.old).left) }
     ensures scope { OnOk result (scope.new ≡ scope.old) }
 {
     match alone(stmts) {
         None => Ok(no_code(alloc)),
-        Some(stmt) => nest_in(alloc, defines, scope, stmt, fresh),
+        Some(stmt) => nest_in(alloc, scope, stmt, fresh),
     }
 }
 
 #[cycle(carrying)]
 fn nest_in(
     alloc: Global,
-    defines: &Program,
     scope: &mut Scope,
     stmt: Stmt,
     fresh: &mut Fresh,
 ) -> Result<Gen, AllocError>
-    requires defines_held { DefinesAreHeld (bare_program defines.now) }
-    requires well_formed { WellFormedStmt (bare_stmt stmt) }
-    ensures tree { IfOk result (λ code. bare_gen code ≡ (c.nest_in (program_defines (bare_program defines.now)) scope.old (bare_stmt stmt) fresh.old).tree) }
-    ensures left { OnOk result (fresh.new ≡ (c.nest_in (program_defines (bare_program defines.now)) scope.old (bare_stmt stmt) fresh.old).left) }
+    requires { WellFormedStmt (bare_stmt stmt) }
+    ensures tree { IfOk result (λ code. bare_gen code ≡ (c.nest_in scope.old.defines scope.old.state (bare_stmt stmt) fresh.old).tree) }
+    ensures left { OnOk result (fresh.new ≡ (c.nest_in scope.old.defines scope.old.state (bare_stmt stmt) fresh.old).left) }
     ensures scope { OnOk result (scope.new ≡ scope.old) }
 {
     match stmt {
@@ -259,16 +247,16 @@ fn nest_in(
             body,
             span: _span,
         } => {
-            let found = typed_head(alloc, defines, scope, head)?;
-            let body = carried_in_loop(alloc, defines, scope, body, &found, fresh)?;
+            let found = typed_head(alloc, &*scope, &head)?;
+            let body = carried_in_loop(alloc, scope, body, &found, fresh)?;
             leaf(alloc, found, body, fresh)
         }
-        Stmt::Block { body, span: _span } => nest(alloc, defines, scope, body, fresh),
+        Stmt::Block { body, span: _span } => nest(alloc, scope, body, fresh),
         Stmt::Omp {
             directive,
             body,
             span: _span,
-        } => construct(alloc, defines, scope, body, &directive, fresh),
+        } => construct(alloc, scope, body, &directive, fresh),
         other => {
             drop(other);
             Ok(no_code(alloc))

@@ -2,23 +2,20 @@
 
 ghost use Rattle.std.specs.Prelude.{◌≡◌, IfOk};
 ghost use Rattle.std.specs.Option.{option_map};
-ghost use Rattle.c_tree.specs.BareOf.{bare_head, bare_program, bare_stmt};
-ghost use Rattle.c_tree.specs.Constants.{DefinesAreHeld};
-ghost use Rattle.c_tree.specs.WellFormed.{WellFormedHead, WellFormedStmt};
-ghost use Rattle.canonical_nests.specs.Canonical.{canonical_stmt, program_defines, seen_loop, test_op};
+ghost use Rattle.c_tree.specs.BareOf.{bare_head};
+ghost use Rattle.c_tree.specs.WellFormed.{WellFormedHead};
+ghost use Rattle.canonical_nests.specs.Canonical.{seen_loop, test_op};
 ghost use Rattle.loop_normal.specs.SourceOf.{source_of};
 ghost use Rattle.loop_normal.specs.Laws.{source_loop};
 ghost use Rattle.carried_out.specs.CarriedOut as c;
 
-use crate::scope::Scope;
 use c_tree::copy::copy_expr;
-use c_tree::tree::{BinOp, ForHead, Program, Span, Stmt, Ty};
-use canonical_nests::canonical::{CanonLoop, Test, canonical};
+use c_tree::tree::{BinOp, ForHead, Ty};
+use canonical_nests::canonical::{CanonLoop, Test};
+use loop_counts::heads::canonical;
+use loop_counts::scope::Scope;
 use loop_normal::normal::OwnedLoop;
-use loop_normal::pieces::no_stmts;
 use std::alloc::{AllocError, Global};
-
-const NOWHERE: Span = Span { start: 0, end: 0 };
 
 fn operator(test: Test) -> BinOp
     ensures { result ≡ test_op test }
@@ -50,8 +47,9 @@ fn copied(alloc: Global, found: CanonLoop, ty: Ty) -> Result<OwnedLoop, AllocErr
 }
 
 /// The type of a loop's variable: as its head declares it, else that of the variable which is visible there.
+#[tactic(auto, using(crate::proofs::Scopes::typed))]
 fn variable_type(scope: &Scope, found: &CanonLoop) -> Option<Ty>
-    ensures { result ≡ c.variable_type scope.now (seen_loop found.now).ty (seen_loop found.now).var }
+    ensures { result ≡ c.variable_type scope.now.state (seen_loop found.now).ty (seen_loop found.now).var }
 {
     match found.ty {
         Some(ty) => Some(ty),
@@ -59,19 +57,16 @@ fn variable_type(scope: &Scope, found: &CanonLoop) -> Option<Ty>
     }
 }
 
-/// The parts of a canonical loop whose variable has a type, and `None` exactly for any other statement.
-#[tactic(auto, using(crate::proofs::HeldHeads::held))]
-fn typed_loop(
+/// The parts of a loop with this head, where the head is canonical and its variable has a type.
+pub(crate) fn typed_head(
     alloc: Global,
-    defines: &Program,
     scope: &Scope,
-    stmt: &Stmt,
+    head: &ForHead,
 ) -> Result<Option<OwnedLoop>, AllocError>
-    requires defines_held { DefinesAreHeld (bare_program defines.now) }
-    requires well_formed { WellFormedStmt (bare_stmt stmt.now) }
-    ensures { IfOk result (λ head. option_map source_of head ≡ c.where_typed scope.now (canonical_stmt (program_defines (bare_program defines.now)) (bare_stmt stmt.now))) }
+    requires { WellFormedHead (bare_head head.now) }
+    ensures { IfOk result (λ found. option_map source_of found ≡ c.loop_at scope.now.defines scope.now.state (bare_head head.now)) }
 {
-    let found = match canonical(defines, stmt) {
+    let found = match canonical(scope, head) {
         None => return Ok(None),
         Some(found) => found,
     };
@@ -79,24 +74,4 @@ fn typed_loop(
         None => Ok(None),
         Some(ty) => Ok(Some(copied(alloc, found, ty)?)),
     }
-}
-
-/// The parts of a loop with this head, where the head is canonical and its variable has a type: a loop with an empty body
-/// stands for it.
-pub(crate) fn typed_head(
-    alloc: Global,
-    defines: &Program,
-    scope: &Scope,
-    head: ForHead,
-) -> Result<Option<OwnedLoop>, AllocError>
-    requires defines_held { DefinesAreHeld (bare_program defines.now) }
-    requires well_formed { WellFormedHead (bare_head head) }
-    ensures { IfOk result (λ found. option_map source_of found ≡ c.loop_at (program_defines (bare_program defines.now)) scope.now (bare_head head)) }
-{
-    let empty = Stmt::For {
-        head,
-        body: no_stmts(alloc),
-        span: NOWHERE,
-    };
-    typed_loop(alloc, defines, scope, &empty)
 }

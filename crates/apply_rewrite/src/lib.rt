@@ -2,10 +2,8 @@
 #![tactic(auto)]
 
 mod carrying;
-mod defines;
+mod entering;
 mod heads;
 pub mod laws;
 mod plans;
 pub mod rewrite;
-mod scope;
-mod source_names;

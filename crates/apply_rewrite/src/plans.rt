@@ -1,37 +1,16 @@
 //! What directives make of the code of a loop, by their plans.
 
 ghost use Rattle.std.specs.Prelude.{◌≡◌, IfOk, OnOk, map};
-ghost use Rattle.c_tree.specs.BareOf.{bare_directive, bare_program};
-ghost use Rattle.c_tree.specs.Constants.{DefinesAreHeld};
-ghost use Rattle.c_tree.specs.WellFormed.{WellFormedDirective};
-ghost use Rattle.c_semantics.specs.Loops.Directives as directives;
-ghost use Rattle.canonical_nests.specs.Canonical.{program_defines};
 ghost use Rattle.canonical_nests.specs.LoopRules.PlacedPlans.{forget_items, forget_plan};
 ghost use Rattle.canonical_nests.specs.Plans.{gather, seen_item, seen_plan, seen_transformation};
 ghost use Rattle.loop_normal.specs.GenOf.{bare_gen};
 ghost use Rattle.carried_out.specs.CarriedOut as c;
 
-use c_tree::tree::{Directive, Program};
-use canonical_nests::directive_plan::plan_of;
 use canonical_nests::plan::{Applied, Plan, Transformation};
 use loop_normal::fresh::Fresh;
 use loop_normal::generated::Gen;
 use permute_reverse::reversal::reverse;
 use std::alloc::{AllocError, Global};
-
-/// The plan of a directive, by the defines that hold there.
-#[tactic(auto, using(crate::proofs::PlanWalks::plans))]
-pub(crate) fn plan(
-    alloc: Global,
-    defines: &Program,
-    directive: &Directive,
-) -> Result<Plan, AllocError>
-    requires defines_held { DefinesAreHeld (bare_program defines.now) }
-    requires well_formed { WellFormedDirective (bare_directive directive.now) }
-    ensures { IfOk result (λ plan. forget_plan (seen_plan plan) ≡ directives.plan_of (program_defines (bare_program defines.now)) (bare_directive directive.now)) }
-{
-    plan_of(alloc, defines, directive)
-}
 
 fn transformed(
     alloc: Global,

@@ -2,25 +2,22 @@
 
 ghost use Rattle.std.specs.Prelude.{◌≡◌, IfOk, OnOk, [], IsTrue, map, ℕ, List, ℤ};
 ghost use Rattle.c_tree.specs.BareOf.{bare_param, bare_program, bare_stmts, bare_top};
-ghost use Rattle.c_tree.specs.Constants.{DefinesAreHeld};
 ghost use Rattle.c_tree.specs.WellFormed.{WellFormedStmts, WellFormedTop, WellFormedTops};
 ghost use Rattle.c_semantics.specs.Meaning.State.{nowhere};
 ghost use Rattle.c_scopes.specs.Types.{with_params};
 ghost use Rattle.c_semantics.specs.Meaning.Programs.{outcome, turns_of};
 ghost use Rattle.c_semantics.specs.Structure.Skeleton.{skeleton};
-ghost use Rattle.canonical_nests.specs.Canonical.{program_defines};
 ghost use Rattle.carried_out.specs.CarriedOut as c;
 ghost use Rattle.apply_rewrite.specs.NoDirectives.{HoldsNoDirective};
 ghost use Rattle.carried_out.specs.AllReverse.{all_reverse};
 ghost use Rattle.apply_rewrite.specs.Rewritten.{ProgramRewritten};
 
 use crate::carrying::carried_all;
-use crate::defines::with_define;
-use crate::scope::Scope;
-use crate::source_names::fresh_beside;
+use crate::entering::{enter_params, pass_item};
 use c_tree::checked::Checked;
 use c_tree::tree::{Item, ItemList, Param, Program, StmtList};
 use canonical_nests::admitted::Admitted;
+use loop_counts::scope::Scope;
 use loop_normal::fresh::Fresh;
 use std::alloc::{AllocError, Global};
 
@@ -28,36 +25,32 @@ use std::alloc::{AllocError, Global};
 #[tactic(auto, using(crate::proofs::Scopes::leaving))]
 fn carried_body(
     alloc: Global,
-    defines: &Program,
     scope: &mut Scope,
     params: &[Param],
     body: StmtList,
     fresh: &mut Fresh,
 ) -> Result<StmtList, AllocError>
-    requires defines_held { DefinesAreHeld (bare_program defines.now) }
-    requires well_formed { WellFormedStmts (bare_stmts body) }
-    ensures tree { IfOk result (λ answer. bare_stmts answer ≡ (c.carried_all (program_defines (bare_program defines.now)) (with_params (map bare_param params.now) scope.old) (bare_stmts body) fresh.old).tree) }
-    ensures left { OnOk result (fresh.new ≡ (c.carried_all (program_defines (bare_program defines.now)) (with_params (map bare_param params.now) scope.old) (bare_stmts body) fresh.old).left) }
+    requires { WellFormedStmts (bare_stmts body) }
+    ensures tree { IfOk result (λ answer. bare_stmts answer ≡ (c.carried_all scope.old.defines (with_params (map bare_param params.now) scope.old.state) (bare_stmts body) fresh.old).tree) }
+    ensures left { OnOk result (fresh.new ≡ (c.carried_all scope.old.defines (with_params (map bare_param params.now) scope.old.state) (bare_stmts body) fresh.old).left) }
     ensures scope { OnOk result (scope.new ≡ scope.old) }
 {
     let len = scope.len();
-    scope.add_params(alloc, params)?;
-    let body = carried_all(alloc, defines, scope, body, fresh)?;
+    enter_params(scope, params)?;
+    let body = carried_all(alloc, scope, body, fresh)?;
     scope.keep(len);
     Ok(body)
 }
 
 fn carried_item(
     alloc: Global,
-    defines: &Program,
     scope: &mut Scope,
     item: Item,
     fresh: &mut Fresh,
 ) -> Result<Item, AllocError>
-    requires defines_held { DefinesAreHeld (bare_program defines.now) }
-    requires well_formed { WellFormedTop (bare_top item) }
-    ensures tree { IfOk result (λ answer. bare_top answer ≡ (c.carried_top (program_defines (bare_program defines.now)) scope.old (bare_top item) fresh.old).tree) }
-    ensures left { OnOk result (fresh.new ≡ (c.carried_top (program_defines (bare_program defines.now)) scope.old (bare_top item) fresh.old).left) }
+    requires { WellFormedTop (bare_top item) }
+    ensures tree { IfOk result (λ answer. bare_top answer ≡ (c.carried_top scope.old.defines scope.old.state (bare_top item) fresh.old).tree) }
+    ensures left { OnOk result (fresh.new ≡ (c.carried_top scope.old.defines scope.old.state (bare_top item) fresh.old).left) }
     ensures scope { OnOk result (scope.new ≡ scope.old) }
 {
     match item {
@@ -68,7 +61,7 @@ fn carried_item(
             body,
             span,
         } => {
-            let body = carried_body(alloc, defines, scope, params.as_slice(), body, fresh)?;
+            let body = carried_body(alloc, scope, params.as_slice(), body, fresh)?;
             Ok(Item::Function {
                 name,
                 name_span,
@@ -78,29 +71,39 @@ fn carried_item(
             })
         }
         Item::Main { body, span } => {
-            let body = carried_all(alloc, defines, scope, body, fresh)?;
+            let body = carried_all(alloc, scope, body, fresh)?;
             Ok(Item::Main { body, span })
         }
         other => Ok(other),
     }
 }
 
-#[tactic(auto, using(crate::proofs::ItemMore::carrying_items))]
+/// Items with their constructs carried out, where no variable but those of the file is visible round them.
+#[tactic(auto, using(crate::proofs::ItemMore::carrying_items, crate::proofs::Scopes::items))]
+fn carried_from(
+    alloc: Global,
+    scope: &mut Scope,
+    items: ItemList,
+    fresh: &mut Fresh,
+) -> Result<ItemList, AllocError>
+    requires well_formed { WellFormedTops (map bare_top items) }
+    requires outside { scope.old.state.frame ≡ [] }
+    ensures { IfOk result (λ done. map bare_top done ≡ (c.carried_items scope.old.defines scope.old.state (map bare_top items) fresh.old).tree) }
+{
+    let mut done = ItemList::new(alloc);
+    'each: for item in items.into_items() {
+        pass_item(scope, &item)?;
+        done.push(carried_item(alloc, scope, item, fresh)?)?;
+    }
+    Ok(done)
+}
+
 fn carried_items(alloc: Global, items: ItemList, fresh: &mut Fresh) -> Result<ItemList, AllocError>
     requires { WellFormedTops (map bare_top items) }
     ensures { IfOk result (λ done. map bare_top done ≡ (c.carried_items [] nowhere (map bare_top items) fresh.old).tree) }
 {
-    let mut defines = Program {
-        items: ItemList::new(alloc),
-    };
     let mut scope = Scope::new(alloc);
-    let mut done = ItemList::new(alloc);
-    'each: for item in items.into_items() {
-        defines = with_define(alloc, defines, &item)?;
-        scope.add_item(alloc, &item)?;
-        done.push(carried_item(alloc, &defines, &mut scope, item, fresh)?)?;
-    }
-    Ok(done)
+    carried_from(alloc, &mut scope, items, fresh)
 }
 
 /// The program with its constructs carried out, inner ones first: each becomes a block (OpenMP 6.0, 11.1 and 11.5). Bodies
@@ -123,9 +126,8 @@ pub fn rewrite(alloc: Global, source: Admitted) -> Result<Checked, AllocError>
     ensures structure { IfOk result (λ answer. skeleton (bare_program answer) ≡ skeleton (bare_program source)) }
 {
     let checked = source.into_checked();
-    let program = checked.into_program();
-    let mut fresh = fresh_beside(alloc, &program)?;
-    let Program { items } = program;
+    let mut fresh = Fresh::new(alloc, &checked)?;
+    let Program { items } = checked.into_program();
     let items = carried_items(alloc, items, &mut fresh)?;
     Ok(Checked::new(Program { items }))
 }

@@ -12,7 +12,7 @@ use Rattle.loop_normal.specs.Gens.{Gen}
 use Rattle.loop_normal.specs.DrawnNames.{FreshNames, drawn, loop_names}
 use Rattle.loop_normal.specs.FromZero.{from_zero, after_from_zero}
 use Rattle.loop_normal.specs.Laws.{source_loop}
-use Rattle.carried_out.specs.SourceNames.{beside_program}
+use Rattle.loop_normal.specs.SourceNames.{beside_program}
 use Rattle.carried_out.specs.CarriedOut.{Made, made_leaf, made_reverse, transformed, planned, items_applied, variable_type, with_type, where_typed, loop_at, scope_below, in_head, carried, carried_all, nest, nest_in, carried_top, carried_items, carried_out}
 use Rattle.c_semantics.specs.Meaning.State.{State, nowhere}
 use Rattle.c_semantics.specs.Loops.Directives.{plan_of}

@@ -32,7 +32,7 @@ use Rattle.c_soundness.specs.Unplaced.{unplaced_exprs, unplaced_stmts, unplaced_
 use Rattle.c_soundness.proofs.Fits.{none_if}
 use Rattle.c_soundness.proofs.Files.{one_name, stays_in, stmts_keep, params_keep}
 use Rattle.loop_normal.specs.DrawnNames.{FreshNames, AreDigits}
-use Rattle.carried_out.specs.SourceNames.{beside_program}
+use Rattle.loop_normal.specs.SourceNames.{beside_program}
 use Rattle.carried_out.specs.CarriedOut.{carried_all, carried_items}
 use Rattle.carried_out.specs.Reversible.{are_reversible, are_reversible_items}
 use Rattle.carried_names.specs.BoundsApart.{ItemsHaveBoundsApart}

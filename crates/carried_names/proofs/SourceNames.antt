@@ -2,7 +2,9 @@
 use Rattle.std.proofs.Common.{List, [], ◌∷◌, ◌++◌}
 use Rattle.c_tree.specs.Bare.{Name, Stmt, decl, set, step, print, input, if_, if_else, while_, do_, for_, block, break_, continue_, empty, omp, call, Stmts, no_stmts, more_stmts, head, MaybeStmt, no_stmt, a_stmt, Param, Top, define, extern_, global, function, main, Program}
 use Rattle.loop_normal.specs.DrawnNames.{AreDigits}
-use Rattle.carried_out.specs.SourceNames.{kept, expr_names, exprs_names, option_names, stmt_names, stmts_names, part_names, head_names, params_names, top_names, program_names, beside_program}
+use Rattle.loop_normal.specs.SourceNames.{kept, expr_names, exprs_names, option_names, stmt_names, stmts_names, part_names, head_names, params_names, top_names, program_names, beside_program}
+use Rattle.loop_normal.specs.TakenNames.{taken_names}
+use Rattle.loop_normal.proofs.TakenNames.{all_taken}
 use Rattle.carried_out.proofs.KnownNames.{Known, Within, known_spent, first, second, kept_known}
 use Rattle.carried_names.proofs.Fresh.{Source, source}
 use Rattle.carried_names.proofs.Declares.{Declares, DeclareAll, DeclaresIf}
@@ -79,4 +81,4 @@ module _ (taken : List Name) (P : Name → Type 0) (known : (x : Name) → Known
   items_declare (i ∷ is) h = (item_declares i (first taken (top_names i) (program_names is) h), items_declare is (second taken (top_names i) (program_names is) h))
 
 pub declares_source : (p : Program) → AreDigits (beside_program p).digits → ItemsDeclare (Source (beside_program p)) p
-declares_source p d = items_declare (program_names p) (Source (beside_program p)) (λ x k. source (beside_program p) x (known_spent (beside_program p) d x k)) p (λ z i. i)
+declares_source p d = items_declare (taken_names (program_names p)) (Source (beside_program p)) (λ x k. source (beside_program p) x (known_spent (beside_program p) d x k)) p (all_taken (program_names p))

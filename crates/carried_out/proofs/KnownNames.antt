@@ -8,7 +8,8 @@ use Rattle.c_semantics.specs.Meaning.FileVariables.{has_name}
 use Rattle.loop_normal.specs.DrawnNames.{FreshNames, drawn, after_draw, AreDigits}
 use Rattle.loop_normal.proofs.FreshFrames.{same_name}
 use Rattle.loop_normal.proofs.Drawn.{drawn_is_untaken}
-use Rattle.carried_out.specs.SourceNames.{begins_like_fresh, kept}
+use Rattle.loop_normal.proofs.TakenNames.{first_has, second_has}
+use Rattle.loop_normal.specs.SourceNames.{begins_like_fresh, kept}
 use Rattle.carried_out.proofs.SpentNames.{Spent, after_are}
 
 -- taken, where it begins as fresh names do
@@ -30,22 +31,6 @@ known_spent f d x k (suc j) = known_spent (after_draw f) (after_are f d) x k j
 module _ (taken : List Name) where
   abbrev pub Within : List Name → Type 0
   Within xs = (z : Name) → has_name xs z ≡ true → has_name taken z ≡ true
-
-  first_has : (xs ys : List Name) (z : Name) → has_name xs z ≡ true → has_name (xs ++ ys) z ≡ true
-  first_has [] ys z h = absurd (both_ways false refl h)
-  first_has (x ∷ xs) ys z h = by (bytes_eq z x) (first_has xs ys z) h
-    where
-      by : (t : Bool) → (has_name xs z ≡ true → has_name (xs ++ ys) z ≡ true) → (if t then true else has_name xs z) ≡ true → (if t then true else has_name (xs ++ ys) z) ≡ true
-      by true go h = refl
-      by false go h = go h
-
-  second_has : (xs ys : List Name) (z : Name) → has_name ys z ≡ true → has_name (xs ++ ys) z ≡ true
-  second_has [] ys z h = h
-  second_has (x ∷ xs) ys z h = by (bytes_eq z x) (second_has xs ys z h)
-    where
-      by : (t : Bool) → has_name (xs ++ ys) z ≡ true → (if t then true else has_name (xs ++ ys) z) ≡ true
-      by true h = refl
-      by false h = h
 
   pub first : (xs ys : List Name) → Within (xs ++ ys) → Within xs
   first xs ys h z i = h z (first_has xs ys z i)

@@ -18,7 +18,7 @@ use Rattle.loop_normal.specs.DrawnNames.{FreshNames, drawn, after_draw, after_dr
 use Rattle.loop_normal.specs.FromZero.{from_zero, after_from_zero}
 use Rattle.loop_normal.specs.Laws.{source_loop}
 use Rattle.permute_reverse.specs.Reversed.{reversed_gen}
-use Rattle.carried_out.specs.SourceNames.{beside_program}
+use Rattle.loop_normal.specs.SourceNames.{beside_program}
 
 -- ---- the loop that a construct takes (OpenMP 6.0, 6.4.1)
 

@@ -1,4 +1,3 @@
-pub mod SourceNames
 pub mod DistinctNames
 pub mod CarriedOut
 pub mod AllReverse

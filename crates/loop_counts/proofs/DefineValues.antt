@@ -9,7 +9,7 @@ use Rattle.c_tree.specs.declared.tree.Ty.{Ty}
 use Rattle.c_tree.specs.declared.tree.Ty.TheVariants.{Int}
 use Rattle.c_semantics.specs.Meaning.State.{Cell, scalar}
 use Rattle.c_semantics.specs.Meaning.Expressions.{Define, define_type, define_value, is_define, name_type, scalar_value}
-use Rattle.loop_counts.specs.Visible.{constant_named}
+use Rattle.loop_counts.specs.ConstantNames.{constant_named}
 
 type_of : Option TypedValue → Ty
 type_of None = Int

@@ -20,5 +20,7 @@ pub mod Splits
 pub mod Tiles
 pub mod Transforms
 pub mod TripCounts
+pub mod TypedNames
+pub mod ValuedNames
 pub mod WantedKinds
 pub mod WellFormedItems

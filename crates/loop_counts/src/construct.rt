@@ -23,11 +23,11 @@ use std::alloc::{AllocError, Global};
 /// before.
 #[tactic(auto, using(crate::proofs::ConstructBreaches::wanted))]
 #[cycle(stmt_breach)]
-fn stmt_breach<'p>(
+fn stmt_breach(
     alloc: Global,
-    stmt: &'p Stmt,
+    stmt: &Stmt,
     wanted: u64,
-    scope: &mut Scope<'p>,
+    scope: &mut Scope,
 ) -> Result<Option<LoopBreach>, AllocError>
     requires { WellFormedStmt (bare_stmt stmt.now) }
     ensures breach { IfOk result (λ breach. breach ≡ least (rules.stmt_breaches scope.old.defines scope.old.state wanted (placed_stmt stmt.now))) }
@@ -42,11 +42,11 @@ fn stmt_breach<'p>(
 /// The same where at least one is wanted.
 #[tactic(auto, using(crate::proofs::ConstructBreaches::heads))]
 #[cycle(stmt_breach)]
-fn some_breach<'p>(
+fn some_breach(
     alloc: Global,
-    stmt: &'p Stmt,
+    stmt: &Stmt,
     wanted: u64,
-    scope: &mut Scope<'p>,
+    scope: &mut Scope,
 ) -> Result<Option<LoopBreach>, AllocError>
     requires well_formed { WellFormedStmt (bare_stmt stmt.now) }
     requires wanted { 0 < wanted }
@@ -86,12 +86,12 @@ fn some_breach<'p>(
 /// The least breach in the body of a loop.
 #[tactic(auto, using(crate::proofs::WantedKinds::left))]
 #[cycle(stmt_breach)]
-fn body_breach<'p>(
+fn body_breach(
     alloc: Global,
-    body: &'p [Stmt],
-    head: &'p ForHead,
+    body: &[Stmt],
+    head: &ForHead,
     wanted: u64,
-    scope: &mut Scope<'p>,
+    scope: &mut Scope,
 ) -> Result<Option<LoopBreach>, AllocError>
     requires { WellFormedStmts (bare_stmts body.now) }
     ensures breach { IfOk result (λ breach. breach ≡ least (rules.stmts_breaches scope.old.defines (in_head (bare_head head.now) scope.old.state) wanted (placed_stmts body.now))) }
@@ -106,11 +106,11 @@ fn body_breach<'p>(
 
 #[tactic(auto, using(crate::proofs::ConstructBreaches::stmts, canonical_nests::proofs::HeldTrees::held_trees))]
 #[cycle(stmt_breach)]
-fn stmts_breach<'p>(
+fn stmts_breach(
     alloc: Global,
-    stmts: &'p [Stmt],
+    stmts: &[Stmt],
     wanted: u64,
-    scope: &mut Scope<'p>,
+    scope: &mut Scope,
 ) -> Result<Option<LoopBreach>, AllocError>
     requires { WellFormedStmts (bare_stmts stmts.now) }
     ensures breach { IfOk result (λ breach. breach ≡ least (rules.stmts_breaches scope.old.defines scope.old.state wanted (placed_stmts stmts.now))) }
@@ -128,12 +128,12 @@ fn stmts_breach<'p>(
 /// does: of L8 of the loops that its directives take, and L16. `None` exactly where there is none. Afterwards the same is
 /// visible as before.
 #[cycle(stmt_breach)]
-pub fn construct_breach<'p>(
+pub fn construct_breach(
     alloc: Global,
-    body: &'p [Stmt],
-    directive: &'p Directive,
+    body: &[Stmt],
+    directive: &Directive,
     wanted: u64,
-    scope: &mut Scope<'p>,
+    scope: &mut Scope,
 ) -> Result<Option<LoopBreach>, AllocError>
     requires body { WellFormedStmts (bare_stmts body.now) }
     requires directive { WellFormedDirective (bare_directive directive.now) }

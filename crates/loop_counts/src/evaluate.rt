@@ -159,7 +159,7 @@ pub fn evaluate(scope: &Scope, visible: bool, e: &Expr) -> Option<Evaluated>
     }
 }
 
-impl Constants for Scope<'_> {
+impl Constants for Scope {
     ghost defines = { λ scope. scope.defines };
 
     ghost are_held = { λ _. Unit {0} };

@@ -2,6 +2,7 @@
 #![tactic(auto)]
 
 pub mod construct;
+pub mod defines;
 pub mod evaluate;
 pub mod fusing;
 pub mod heads;
@@ -19,3 +20,4 @@ pub mod splitting;
 pub mod tiling;
 pub mod transformed;
 pub mod trip;
+pub mod variables;

@@ -22,7 +22,7 @@ use canonical_nests::nest::CountKind;
 use std::alloc::{AllocError, Global};
 
 /// What is visible after a statement.
-pub fn declare<'p>(scope: &mut Scope<'p>, stmt: &'p Stmt) -> Result<(), AllocError>
+pub fn declare(scope: &mut Scope, stmt: &Stmt) -> Result<(), AllocError>
     ensures { OnOk result (scope.new ≡ record scope.old { state = skeleton.scope_after (bare_stmt stmt.now) scope.old.state }) }
 {
     match stmt {
@@ -33,7 +33,7 @@ pub fn declare<'p>(scope: &mut Scope<'p>, stmt: &'p Stmt) -> Result<(), AllocErr
 
 /// What is visible in a loop with this head.
 #[tactic(auto, using(c_tree::proofs::Heads::heads))]
-pub fn enter<'p>(scope: &mut Scope<'p>, head: &'p ForHead) -> Result<(), AllocError>
+pub fn enter(scope: &mut Scope, head: &ForHead) -> Result<(), AllocError>
     ensures { OnOk result (scope.new ≡ record scope.old { state = in_head (bare_head head.now) scope.old.state }) }
 {
     match &head.init {
@@ -82,11 +82,11 @@ fn with_source(alloc: Global, kind: CountKind, inner: &[Part]) -> Result<Vec<Par
 /// The parts of a statement where so many loops are wanted of it. Afterwards the same is visible as before.
 #[tactic(auto, using(crate::proofs::WantedKinds::wanted))]
 #[cycle(stmt_kinds)]
-pub fn stmt_kinds<'p>(
+pub fn stmt_kinds(
     alloc: Global,
-    stmt: &'p Stmt,
+    stmt: &Stmt,
     wanted: u64,
-    scope: &mut Scope<'p>,
+    scope: &mut Scope,
 ) -> Result<Vec<Part>, AllocError>
     requires { WellFormedStmt (bare_stmt stmt.now) }
     ensures parts { IfOk result (λ parts. parts.items ≡ shapes.stmt_kinds scope.old.defines scope.old.state wanted (bare_stmt stmt.now)) }
@@ -100,11 +100,11 @@ pub fn stmt_kinds<'p>(
 
 /// The same where at least one is wanted.
 #[cycle(stmt_kinds)]
-fn some_kinds<'p>(
+fn some_kinds(
     alloc: Global,
-    stmt: &'p Stmt,
+    stmt: &Stmt,
     wanted: u64,
-    scope: &mut Scope<'p>,
+    scope: &mut Scope,
 ) -> Result<Vec<Part>, AllocError>
     requires well_formed { WellFormedStmt (bare_stmt stmt.now) }
     requires wanted { 0 < wanted }
@@ -142,12 +142,12 @@ fn some_kinds<'p>(
 
 #[tactic(auto, using(crate::proofs::WantedKinds::left))]
 #[cycle(stmt_kinds)]
-fn for_kinds<'p>(
+fn for_kinds(
     alloc: Global,
-    body: &'p [Stmt],
-    head: &'p ForHead,
+    body: &[Stmt],
+    head: &ForHead,
     wanted: u64,
-    scope: &mut Scope<'p>,
+    scope: &mut Scope,
 ) -> Result<Vec<Part>, AllocError>
     requires body { WellFormedStmts (bare_stmts body.now) }
     requires head { WellFormedHead (bare_head head.now) }
@@ -166,11 +166,11 @@ fn for_kinds<'p>(
 /// The parts of a list with one statement.
 #[tactic(auto, using(crate::proofs::WantedKinds::singles))]
 #[cycle(stmt_kinds)]
-fn single_kinds<'p>(
+fn single_kinds(
     alloc: Global,
-    stmts: &'p [Stmt],
+    stmts: &[Stmt],
     wanted: u64,
-    scope: &mut Scope<'p>,
+    scope: &mut Scope,
 ) -> Result<Vec<Part>, AllocError>
     requires { WellFormedStmts (bare_stmts stmts.now) }
     ensures parts { IfOk result (λ parts. parts.items ≡ shapes.single_kinds scope.old.defines scope.old.state wanted (bare_stmts stmts.now)) }
@@ -187,11 +187,11 @@ fn single_kinds<'p>(
 /// The parts of all members of a sequence.
 #[tactic(auto, using(crate::proofs::WantedKinds::members, canonical_nests::proofs::HeldTrees::held_trees))]
 #[cycle(stmt_kinds)]
-fn member_kinds<'p>(
+fn member_kinds(
     alloc: Global,
-    stmts: &'p [Stmt],
+    stmts: &[Stmt],
     wanted: u64,
-    scope: &mut Scope<'p>,
+    scope: &mut Scope,
 ) -> Result<Vec<Part>, AllocError>
     requires { WellFormedStmts (bare_stmts stmts.now) }
     ensures parts { IfOk result (λ parts. parts.items ≡ shapes.member_kinds scope.old.defines scope.old.state wanted (bare_stmts stmts.now)) }
@@ -210,12 +210,12 @@ fn member_kinds<'p>(
 
 /// The parts of a member, which may be the last.
 #[cycle(stmt_kinds)]
-fn one_member<'p>(
+fn one_member(
     alloc: Global,
-    stmt: &'p Stmt,
+    stmt: &Stmt,
     last: bool,
     wanted: u64,
-    scope: &mut Scope<'p>,
+    scope: &mut Scope,
 ) -> Result<Vec<Part>, AllocError>
     requires { WellFormedStmt (bare_stmt stmt.now) }
     ensures parts { IfOk result (λ parts. parts.items ≡ member_of last scope.old.defines scope.old.state wanted (bare_stmt stmt.now)) }
@@ -230,11 +230,11 @@ fn one_member<'p>(
 
 /// The parts of the last member: of a block those of the members in it.
 #[cycle(stmt_kinds)]
-fn last_kinds<'p>(
+fn last_kinds(
     alloc: Global,
-    stmt: &'p Stmt,
+    stmt: &Stmt,
     wanted: u64,
-    scope: &mut Scope<'p>,
+    scope: &mut Scope,
 ) -> Result<Vec<Part>, AllocError>
     requires { WellFormedStmt (bare_stmt stmt.now) }
     ensures parts { IfOk result (λ parts. parts.items ≡ last_kinds scope.old.defines scope.old.state wanted (bare_stmt stmt.now)) }
@@ -262,12 +262,12 @@ fn last_kinds<'p>(
 /// What a directive of this kind finds in its body, where so many loops are wanted of each part: `fuse` the parts of all
 /// members, any other those of the one statement.
 #[cycle(stmt_kinds)]
-pub fn body_kinds<'p>(
+pub fn body_kinds(
     alloc: Global,
-    body: &'p [Stmt],
+    body: &[Stmt],
     kind: Kind,
     wanted: u64,
-    scope: &mut Scope<'p>,
+    scope: &mut Scope,
 ) -> Result<Vec<Part>, AllocError>
     requires { WellFormedStmts (bare_stmts body.now) }
     ensures parts { IfOk result (λ parts. parts.items ≡ shapes.found_by kind (shapes.single_kinds scope.old.defines scope.old.state wanted (bare_stmts body.now)) (shapes.member_kinds scope.old.defines scope.old.state wanted (bare_stmts body.now))) }

@@ -25,10 +25,10 @@ use std::alloc::{AllocError, Global};
 
 /// What is known where a function stands.
 #[derive(Clone, Copy)]
-struct Known<'a, 'p> {
+struct Known<'a> {
     alloc: Global,
     functions: &'a Functions,
-    scope: &'a Scope<'p>,
+    scope: &'a Scope,
 }
 
 /// All of these names hide.
@@ -498,7 +498,7 @@ pub fn function_access<'p>(
     params: &'p [Param],
     body: &'p [Stmt],
     functions: &Functions,
-    scope: &Scope<'p>,
+    scope: &Scope,
 ) -> Result<Touched, AllocError>
     requires { WellFormedStmts (bare_stmts body.now) }
     ensures { IfOk result (λ touched. Gains files.no_access (files.all_accesses scope.now.defines functions.now (files.param_names (map bare_param params.now)) (bare_stmts body.now)) touched) }

@@ -62,7 +62,7 @@ fn loop_breach(place: &Place, head: &ForHead, body: &[Stmt]) -> Option<LoopBreac
 }
 
 /// Makes the variable visible that the first part of a head declares.
-fn enter_part<'p>(scope: &mut Scope<'p>, part: &'p Option<Boxed<Stmt>>) -> Result<(), AllocError>
+fn enter_part(scope: &mut Scope, part: &Option<Boxed<Stmt>>) -> Result<(), AllocError>
     ensures { OnOk result (scope.new ≡ record scope.old { state = skeleton.scope_in (maybe_stmt (option_map bare_stmt part.now)) scope.old.state }) }
 {
     match part {
@@ -71,7 +71,7 @@ fn enter_part<'p>(scope: &mut Scope<'p>, part: &'p Option<Boxed<Stmt>>) -> Resul
     }
 }
 
-fn enter<'p>(scope: &mut Scope<'p>, stmt: &'p Stmt) -> Result<(), AllocError>
+fn enter(scope: &mut Scope, stmt: &Stmt) -> Result<(), AllocError>
     ensures { OnOk result (scope.new ≡ record scope.old { state = skeleton.scope_after (bare_stmt stmt.now) scope.old.state }) }
 {
     match stmt {
@@ -87,7 +87,7 @@ fn enter<'p>(scope: &mut Scope<'p>, stmt: &'p Stmt) -> Result<(), AllocError>
 #[tactic(auto, using(crate::proofs::Nests::entering))]
 fn enter_canonical<'a, 'p>(
     at: Within<'a, 'p>,
-    scope: &mut Scope<'p>,
+    scope: &mut Scope,
     round: &mut NameStack<'p>,
     head: &'p ForHead,
     body: &'p [Stmt],
@@ -115,7 +115,7 @@ fn enter_canonical<'a, 'p>(
 #[tactic(auto, using(crate::proofs::Nests::entering))]
 fn enter_head<'a, 'p>(
     at: Within<'a, 'p>,
-    scope: &mut Scope<'p>,
+    scope: &mut Scope,
     round: &mut NameStack<'p>,
     head: &'p ForHead,
     body: &'p [Stmt],
@@ -138,7 +138,7 @@ fn enter_head<'a, 'p>(
 #[tactic(auto, using(crate::proofs::Nests::entering))]
 fn enter_loop<'a, 'p>(
     at: Within<'a, 'p>,
-    scope: &mut Scope<'p>,
+    scope: &mut Scope,
     round: &mut NameStack<'p>,
     head: &'p ForHead,
     body: &'p [Stmt],
@@ -159,7 +159,7 @@ fn enter_loop<'a, 'p>(
 #[cycle(stmts_breach)]
 fn stmt_breach<'a, 'p>(
     at: Within<'a, 'p>,
-    scope: &mut Scope<'p>,
+    scope: &mut Scope,
     round: &mut NameStack<'p>,
     stmt: &'p Stmt,
     wanted: u64,
@@ -209,7 +209,7 @@ fn stmt_breach<'a, 'p>(
 #[cycle(stmts_breach)]
 fn for_breach<'a, 'p>(
     at: Within<'a, 'p>,
-    scope: &mut Scope<'p>,
+    scope: &mut Scope,
     round: &mut NameStack<'p>,
     body: &'p [Stmt],
     head: &'p ForHead,
@@ -234,7 +234,7 @@ fn for_breach<'a, 'p>(
 #[cycle(stmts_breach)]
 fn stmts_breach<'a, 'p>(
     at: Within<'a, 'p>,
-    scope: &mut Scope<'p>,
+    scope: &mut Scope,
     round: &mut NameStack<'p>,
     stmts: &'p [Stmt],
     wanted: u64,
@@ -258,12 +258,12 @@ fn stmts_breach<'a, 'p>(
 /// The least breach of a rule of heads in a construct (L2 to L6, the source loops of L8, L9 and L28), by place and then by
 /// rule, and `None` exactly where there is none: in the loops that its directives ask for and what stands in their bodies,
 /// where these functions are known. The scope is the one where the construct stands, and is left as it was.
-pub fn construct_breach<'p>(
+pub fn construct_breach(
     alloc: Global,
     functions: &Functions,
-    scope: &mut Scope<'p>,
+    scope: &mut Scope,
     directive: &Directive,
-    body: &'p [Stmt],
+    body: &[Stmt],
 ) -> Result<Option<LoopBreach>, AllocError>
     requires directive { WellFormedDirective (bare_directive directive.now) }
     requires body { WellFormedStmts (bare_stmts body.now) }

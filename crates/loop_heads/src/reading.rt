@@ -26,7 +26,7 @@ use loop_counts::scope::Scope;
 #[derive(Clone, Copy)]
 pub struct Place<'a, 'p> {
     pub functions: &'a Functions,
-    pub scope: &'a Scope<'p>,
+    pub scope: &'a Scope,
     pub construct: &'a [Stmt],
     pub round: &'a NameStack<'p>,
     pub canon: CanonLoop<'a>,

@@ -15,3 +15,6 @@ pub mod Digits
 pub mod Trees
 pub mod Drawn
 pub mod Parts
+pub mod TakenNames
+pub mod Gathered
+pub mod LoopFields

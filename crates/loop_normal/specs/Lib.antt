@@ -8,3 +8,5 @@ pub mod Denotes
 pub mod FreshNames
 pub mod Laws
 pub mod FromZero
+pub mod TakenNames
+pub mod SourceNames

@@ -1,10 +1,15 @@
 //! Fresh names, which a source doesn't have.
 
 ghost use Rattle.std.specs.Prelude.{◌≡◌, ◌++◌, IfOk, OnOk, OnErr, codes, reverse, length};
-ghost use Rattle.c_semantics.specs.Meaning.FileVariables.{has_name};
+ghost use Rattle.c_tree.specs.BareOf.{bare_program};
 ghost use Rattle.loop_normal.specs.DrawnNames as names;
+ghost use Rattle.loop_normal.specs.SourceNames.{beside_program};
+ghost use Rattle.loop_normal.specs.TakenNames.{taken_names};
 
+use crate::source_names::{in_table, program_names};
+use c_tree::checked::Checked;
 use c_tree::name::Name;
+use indexmap::IndexSet;
 use std::alloc::{AllocError, Global};
 use std::marker::Model;
 
@@ -13,7 +18,7 @@ use std::marker::Model;
 #[derive(Debug, Drop)]
 pub struct Fresh {
     alloc: Global,
-    taken: Vec<Name>,
+    taken: IndexSet<Name>,
     /// ASCII codes, the least significant first.
     digits: Vec<u8>,
 }
@@ -23,14 +28,23 @@ impl Model for Fresh {
 
     ghost Value = { FreshNames };
 
-    ghost view = { λ fresh. record { taken = fresh.taken.items; digits = fresh.digits.items } };
+    ghost view = { λ fresh. record { taken = fresh.taken.keys; digits = fresh.digits.items } };
 }
 
 impl Fresh {
-    /// Names that aren't among these.
-    pub fn beside(alloc: Global, taken: Vec<Name>) -> Result<Fresh, AllocError>
-        ensures { IfOk result (λ fresh. fresh ≡ names.no_draws taken.items) }
+    /// Fresh names beside a program, none drawn yet: none is a name of its variables, functions and defines.
+    pub fn new(alloc: Global, source: &Checked) -> Result<Fresh, AllocError>
+        ensures { IfOk result (λ fresh. fresh ≡ beside_program (bare_program source.now)) }
     {
+        let taken = program_names(alloc, source.program())?;
+        Fresh::beside(alloc, taken)
+    }
+
+    /// Fresh names beside these, none drawn yet.
+    pub fn beside(alloc: Global, taken: Vec<Name>) -> Result<Fresh, AllocError>
+        ensures { IfOk result (λ fresh. fresh ≡ names.no_draws (taken_names taken.items)) }
+    {
+        let taken = in_table(alloc, taken)?;
         let digits = Vec::from_slice(alloc, b"0")?;
         Ok(Fresh {
             alloc,
@@ -53,7 +67,8 @@ impl Fresh {
         Ok(name)
     }
 
-    /// The digits of the number that is drawn next.
+    /// The digits of the number that is drawn next: at most as many numbers are tried as names are taken, each in one step.
+    #[tactic(auto, using(crate::proofs::TakenNames::table))]
     fn untaken(&self) -> Result<Vec<u8>, AllocError>
         ensures { IfOk result (λ digits. digits.items ≡ names.drawn_digits self.now) }
     {
@@ -61,7 +76,7 @@ impl Fresh {
         let mut left = self.taken.as_slice();
         while let [_, rest @ ..] = left {
             let name = numbered(self.alloc, digits.as_slice())?;
-            if !is_among(self.taken.as_slice(), &name) {
+            if !self.taken.contains(&name) {
                 return Ok(digits);
             }
             digits = next_digits(self.alloc, digits.as_slice())?;
@@ -69,18 +84,6 @@ impl Fresh {
         }
         Ok(digits)
     }
-}
-
-fn is_among(mut names: &[Name], name: &Name) -> bool
-    ensures { result ≡ has_name names.entry.now name.now }
-{
-    while let [other, rest @ ..] = names {
-        if name == other {
-            return true;
-        }
-        names = rest;
-    }
-    false
 }
 
 /// The digits of the next number, the least significant first.

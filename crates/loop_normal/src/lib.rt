@@ -7,4 +7,5 @@ pub mod laws;
 pub mod normal;
 pub mod pieces;
 pub mod ranges;
+mod source_names;
 pub mod statements;

@@ -1,6 +1,6 @@
 //! The constructs of a program: the directives that no other directive takes.
 
-ghost use Rattle.std.specs.Prelude.{◌≡◌, ◌++◌, IfOk, OnOk};
+ghost use Rattle.std.specs.Prelude.{◌≡◌, ◌++◌, map, IfOk, OnOk};
 ghost use Rattle.c_tree.specs.BareOf.{bare_directive, bare_program, bare_stmt, bare_stmts, bare_top};
 ghost use Rattle.c_tree.specs.PlacedOf.{placed_directive, placed_program, placed_stmt, placed_stmts, placed_top};
 ghost use Rattle.c_tree.specs.Forget.{forget_directive};
@@ -162,19 +162,32 @@ fn list_item(
     }
 }
 
-/// The constructs of a well-formed program.
+/// Lists the constructs in items.
 #[tactic(auto, using(crate::proofs::Listed::programs))]
+fn list_items(
+    alloc: Global,
+    items: &[Item],
+    scope: &mut Scope,
+    found: &mut Vec<Construct>,
+) -> Result<(), AllocError>
+    requires { WellFormedTops (map bare_top items.now) }
+    ensures { OnOk result (found.new.items ≡ found.old.items ++ listed.constructs_from scope.old.defines (map placed_top items.now)) }
+{
+    'each: for item in items {
+        list_item(alloc, item, &*scope, found)?;
+        scope.add_item(item)?;
+    }
+    Ok(())
+}
+
+/// The constructs of a well-formed program.
 fn program_constructs(alloc: Global, program: &Program) -> Result<Vec<Construct>, AllocError>
     requires { WellFormedTops (bare_program program.now) }
     ensures { IfOk result (λ list. list.items ≡ listed.constructs (placed_program program.now)) }
 {
     let mut scope = Scope::new(alloc);
     let mut found = Vec::new(alloc);
-    let items = program.items.as_slice();
-    'each: for item in items {
-        list_item(alloc, item, &scope, &mut found)?;
-        scope.add_item(item)?;
-    }
+    list_items(alloc, program.items.as_slice(), &mut scope, &mut found)?;
     Ok(found)
 }
 

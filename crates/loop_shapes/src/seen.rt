@@ -20,7 +20,7 @@ pub struct Seen {
 }
 
 /// Makes the define visible that an item is, if it is one.
-fn add_define<'p>(scope: &mut Scope<'p>, item: &'p Item) -> Result<(), AllocError>
+fn add_define(scope: &mut Scope, item: &Item) -> Result<(), AllocError>
     requires { WellFormedTop (bare_top item.now) }
     ensures { OnOk result (scope.new ≡ record scope.old { defines = program_defines (bare_top item.now ∷ []) ++ scope.old.defines }) }
 {
@@ -37,7 +37,7 @@ fn add_define<'p>(scope: &mut Scope<'p>, item: &'p Item) -> Result<(), AllocErro
 
 /// Makes the defines visible, the first one innermost.
 #[tactic(auto, using(crate::proofs::Visibility::defines))]
-fn add_defines<'p>(scope: &mut Scope<'p>, items: &'p [Item]) -> Result<(), AllocError>
+fn add_defines(scope: &mut Scope, items: &[Item]) -> Result<(), AllocError>
     requires { WellFormedTops (map bare_top items.now) }
     ensures { OnOk result (scope.new ≡ record scope.old { defines = program_defines (map bare_top items.now) ++ scope.old.defines }) }
 {
@@ -52,7 +52,7 @@ fn add_defines<'p>(scope: &mut Scope<'p>, items: &'p [Item]) -> Result<(), Alloc
 
 /// Makes variables visible, the first one innermost.
 #[tactic(auto, using(crate::proofs::Visibility::variables))]
-fn declare_all<'p>(scope: &mut Scope<'p>, vars: &'p [Seen]) -> Result<(), AllocError>
+fn declare_all(scope: &mut Scope, vars: &[Seen]) -> Result<(), AllocError>
     ensures { OnOk result (scope.new ≡ record scope.old { state = with_frame (map variable_of vars.now ++ scope.old.state.frame) scope.old.state }) }
 {
     let mut left = vars.len();
@@ -66,11 +66,7 @@ fn declare_all<'p>(scope: &mut Scope<'p>, vars: &'p [Seen]) -> Result<(), AllocE
 
 /// The defines of a program, of which the first of a name counts, and these variables, the innermost first.
 #[tactic(auto, using(crate::proofs::Visibility::places))]
-pub fn scope_at<'p>(
-    alloc: Global,
-    program: &'p Program,
-    vars: &'p [Seen],
-) -> Result<Scope<'p>, AllocError>
+pub fn scope_at(alloc: Global, program: &Program, vars: &[Seen]) -> Result<Scope, AllocError>
     requires { WellFormedTops (bare_program program.now) }
     ensures { IfOk result (λ scope. scope ≡ visible_at (bare_program program.now) vars.now) }
 {

@@ -79,12 +79,12 @@ fn given_unlike(
 }
 
 /// The parts that a directive gives.
-fn directive_parts<'p>(
+fn directive_parts(
     alloc: Global,
-    body: &'p [Stmt],
-    directive: &'p Directive,
+    body: &[Stmt],
+    directive: &Directive,
     need: u64,
-    scope: &mut Scope<'p>,
+    scope: &mut Scope,
 ) -> Result<Vec<Part>, AllocError>
     requires body { WellFormedStmts (bare_stmts body.now) }
     requires directive { WellFormedDirective (bare_directive directive.now) }
@@ -97,11 +97,11 @@ fn directive_parts<'p>(
 }
 
 /// The parts that a statement gives.
-fn given_parts<'p>(
+fn given_parts(
     alloc: Global,
-    stmt: &'p Stmt,
+    stmt: &Stmt,
     need: u64,
-    scope: &mut Scope<'p>,
+    scope: &mut Scope,
 ) -> Result<Vec<Part>, AllocError>
     requires { WellFormedStmt (bare_stmt stmt.now) }
     ensures { IfOk result (λ parts. parts.items ≡ given_kinds scope.old.defines scope.old.state need (bare_stmt stmt.now)) }
@@ -131,17 +131,32 @@ fn without_fault(breach: Option<LoopBreach>, unlike: Option<u64>) -> Result<(), 
     Ok(())
 }
 
+/// The shape of what a statement gives where so many loops are wanted of it, where this is visible.
+fn shape_in(alloc: Global, stmt: &Stmt, need: u64, scope: &mut Scope) -> Result<Shape, ShapeFault>
+    requires { WellFormedStmt (bare_stmt stmt.now) }
+    ensures shape { IfOk result (λ shape. kinds_of shape ≡ given_kinds scope.old.defines scope.old.state need (bare_stmt stmt.now)) }
+    ensures given { OnOk result ((least (given_breaches scope.old.defines need (placed_stmt stmt.now)) ≡ None) × (given_unlike scope.old.defines need (placed_stmt stmt.now) ≡ None)) }
+    ensures fault { IfErr result (IsFault (least (given_breaches scope.old.defines need (placed_stmt stmt.now))) (given_unlike scope.old.defines need (placed_stmt stmt.now))) }
+{
+    let breach = given_breach(alloc, stmt, need, &*scope)?;
+    let unlike = given_unlike(alloc, stmt, need, &*scope)?;
+    without_fault(breach, unlike)?;
+    let parts = given_parts(alloc, stmt, need, scope)?;
+    let shape = shaped(alloc, parts)?;
+    Ok(shape)
+}
+
 /// The parts that a `for` or a directive gives where so many loops are wanted of it, each loop with what is known of its
 /// count (OpenMP 6.0, 6.4); a directive of which none is wanted is a construct by itself. The variables are those that are
 /// visible at the statement's place, the innermost first; they give the type of each loop whose head doesn't declare its
 /// variable, unless a head round it in the statement does. `NoShape` exactly where a directive that has to give loops breaks
 /// a rule of structure, at the least such place; else `NotCanonical` exactly where an affected loop isn't canonical, at the
 /// word `for` of the first such loop; `Memory` is want of memory.
-pub fn shape<'p>(
+pub fn shape(
     alloc: Global,
-    program: &'p Program,
-    vars: &'p [Seen],
-    stmt: &'p Stmt,
+    program: &Program,
+    vars: &[Seen],
+    stmt: &Stmt,
     need: u64,
 ) -> Result<Shape, ShapeFault>
     requires program { WellFormedTops (bare_program program.now) }
@@ -154,10 +169,5 @@ pub fn shape<'p>(
         IfErr result (IsFault (least (given_breaches ds need (placed_stmt stmt.now))) (given_unlike ds need (placed_stmt stmt.now))) }
 {
     let mut scope = scope_at(alloc, program, vars)?;
-    let breach = given_breach(alloc, stmt, need, &scope)?;
-    let unlike = given_unlike(alloc, stmt, need, &scope)?;
-    without_fault(breach, unlike)?;
-    let parts = given_parts(alloc, stmt, need, &mut scope)?;
-    let shape = shaped(alloc, parts)?;
-    Ok(shape)
+    shape_in(alloc, stmt, need, &mut scope)
 }

@@ -52,11 +52,11 @@ fn plain_weight(stmt: &Stmt) -> u64
 /// visible as before.
 #[tactic(auto, using(crate::proofs::Caps::sums, crate::proofs::Scopes::loops))]
 #[cycle(stmt_weight)]
-pub fn stmt_weight<'p>(
+pub fn stmt_weight(
     alloc: Global,
-    stmt: &'p Stmt,
+    stmt: &Stmt,
     wanted: u64,
-    scope: &mut Scope<'p>,
+    scope: &mut Scope,
 ) -> Result<u64, AllocError>
     requires { WellFormedStmt (bare_stmt stmt.now) }
     ensures weight { IfOk result (λ n. n ≡ capped_weight (weight.stmt_weight scope.old.defines scope.old.state wanted (bare_stmt stmt.now))) }
@@ -102,11 +102,11 @@ pub fn stmt_weight<'p>(
 /// The weight of a test, and of the statements that it lets run.
 #[tactic(auto, using(crate::proofs::Caps::sums))]
 #[cycle(stmt_weight)]
-fn tested_weight<'p>(
+fn tested_weight(
     alloc: Global,
-    body: &'p [Stmt],
+    body: &[Stmt],
     test: &Expr,
-    scope: &mut Scope<'p>,
+    scope: &mut Scope,
 ) -> Result<u64, AllocError>
     requires { WellFormedStmts (bare_stmts body.now) }
     ensures weight { IfOk result (λ n. n ≡ capped_weight (1 + weight.expr_weight (bare_expr test.now) + weight.stmts_weight scope.old.defines scope.old.state 0 (bare_stmts body.now))) }
@@ -119,11 +119,7 @@ fn tested_weight<'p>(
 /// The weight of a `for` without its body.
 #[tactic(auto, using(loop_counts::proofs::HeadParts::heads, crate::proofs::Caps::sums))]
 #[cycle(stmt_weight)]
-fn head_weight<'p>(
-    alloc: Global,
-    head: &'p ForHead,
-    scope: &mut Scope<'p>,
-) -> Result<u64, AllocError>
+fn head_weight(alloc: Global, head: &ForHead, scope: &mut Scope) -> Result<u64, AllocError>
     requires { WellFormedHead (bare_head head.now) }
     ensures weight { IfOk result (λ n. n ≡ capped_weight (head_weight scope.old.defines scope.old.state (bare_head head.now))) }
     ensures scope { OnOk result (scope.new ≡ scope.old) }
@@ -134,10 +130,10 @@ fn head_weight<'p>(
 }
 
 #[cycle(stmt_weight)]
-fn part_weight<'p>(
+fn part_weight(
     alloc: Global,
-    part: &'p Option<Boxed<Stmt>>,
-    scope: &mut Scope<'p>,
+    part: &Option<Boxed<Stmt>>,
+    scope: &mut Scope,
 ) -> Result<u64, AllocError>
     requires { WellFormedPart (maybe_stmt (option_map bare_stmt part.now)) }
     ensures weight { IfOk result (λ n. n ≡ capped_weight (weight.part_weight scope.old.defines scope.old.state (maybe_stmt (option_map bare_stmt part.now)))) }
@@ -152,12 +148,12 @@ fn part_weight<'p>(
 /// The weight of a loop's body.
 #[tactic(auto, using(loop_counts::proofs::WantedKinds::left, crate::proofs::Scopes::asked))]
 #[cycle(stmt_weight)]
-fn body_weight<'p>(
+fn body_weight(
     alloc: Global,
-    body: &'p [Stmt],
-    head: &'p ForHead,
+    body: &[Stmt],
+    head: &ForHead,
     wanted: u64,
-    scope: &mut Scope<'p>,
+    scope: &mut Scope,
 ) -> Result<u64, AllocError>
     requires { WellFormedStmts (bare_stmts body.now) }
     ensures weight { IfOk result (λ n. n ≡ capped_weight (weight.stmts_weight scope.old.defines (in_head (bare_head head.now) scope.old.state) (weight.asked_below wanted) (bare_stmts body.now))) }
@@ -173,12 +169,12 @@ fn body_weight<'p>(
 /// The weight of a construct.
 #[tactic(auto, using(crate::proofs::Caps::products))]
 #[cycle(stmt_weight)]
-fn omp_weight<'p>(
+fn omp_weight(
     alloc: Global,
-    body: &'p [Stmt],
-    directive: &'p Directive,
+    body: &[Stmt],
+    directive: &Directive,
     wanted: u64,
-    scope: &mut Scope<'p>,
+    scope: &mut Scope,
 ) -> Result<u64, AllocError>
     requires body { WellFormedStmts (bare_stmts body.now) }
     requires directive { WellFormedDirective (bare_directive directive.now) }
@@ -196,11 +192,11 @@ fn omp_weight<'p>(
 /// The weight of a list of statements, up to the cap.
 #[tactic(auto, using(crate::proofs::Scopes::stmts, crate::proofs::Caps::sums, canonical_nests::proofs::HeldTrees::held_trees))]
 #[cycle(stmt_weight)]
-pub fn stmts_weight<'p>(
+pub fn stmts_weight(
     alloc: Global,
-    stmts: &'p [Stmt],
+    stmts: &[Stmt],
     wanted: u64,
-    scope: &mut Scope<'p>,
+    scope: &mut Scope,
 ) -> Result<u64, AllocError>
     requires { WellFormedStmts (bare_stmts stmts.now) }
     ensures weight { IfOk result (λ n. n ≡ capped_weight (weight.stmts_weight scope.old.defines scope.old.state wanted (bare_stmts stmts.now))) }

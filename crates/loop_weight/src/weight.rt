@@ -22,11 +22,11 @@ use std::alloc::{AllocError, Global};
 
 /// The weight of a function's body, where no variable but those of the file is visible round it.
 #[tactic(auto, using(loop_counts::proofs::Parameters::functions))]
-fn function_weight<'p>(
+fn function_weight(
     alloc: Global,
-    params: &'p [Param],
-    body: &'p [Stmt],
-    scope: &mut Scope<'p>,
+    params: &[Param],
+    body: &[Stmt],
+    scope: &mut Scope,
 ) -> Result<u64, AllocError>
     requires body { WellFormedStmts (bare_stmts body.now) }
     requires outside { scope.old.state.frame ≡ [] }
@@ -41,7 +41,7 @@ fn function_weight<'p>(
 
 /// The weight of an item, up to the cap.
 #[tactic(auto, using(crate::proofs::Caps::sums))]
-fn item_weight<'p>(alloc: Global, item: &'p Item, scope: &mut Scope<'p>) -> Result<u64, AllocError>
+fn item_weight(alloc: Global, item: &Item, scope: &mut Scope) -> Result<u64, AllocError>
     requires well_formed { WellFormedTop (bare_top item.now) }
     requires outside { scope.old.state.frame ≡ [] }
     ensures weight { IfOk result (λ n. n ≡ capped_weight (weight.top_weight scope.old.defines scope.old.state (bare_top item.now))) }
@@ -60,21 +60,29 @@ fn item_weight<'p>(alloc: Global, item: &'p Item, scope: &mut Scope<'p>) -> Resu
     }
 }
 
+/// The weight of items, up to the cap, where no variable but those of the file is visible round them.
+#[tactic(auto, using(crate::proofs::Items::items, crate::proofs::Caps::sums))]
+fn items_weight(alloc: Global, items: &[Item], scope: &mut Scope) -> Result<u64, AllocError>
+    requires well_formed { WellFormedTops (map bare_top items.now) }
+    requires outside { scope.old.state.frame ≡ [] }
+    ensures { IfOk result (λ n. n ≡ capped_weight (weight.weight_from scope.old.defines scope.old.state (map bare_top items.now))) }
+{
+    let mut all = 0;
+    'each: for item in items {
+        all = plus(all, item_weight(alloc, item, scope)?);
+        scope.add_item(item)?;
+    }
+    Ok(all)
+}
+
 /// The weight of a program, and 2^20 + 1 for any greater one: the expressions and statements in it, where each directive
 /// multiplies what it copies, and adds for the loops that it and its items generate. A well-formed program.
-#[tactic(auto, using(crate::proofs::Items::items, crate::proofs::Caps::sums))]
 pub fn weight(alloc: Global, program: &Program) -> Result<u64, AllocError>
     requires { WellFormedTops (bare_program program.now) }
     ensures { IfOk result (λ n. n ≡ capped_weight (weight.weight (bare_program program.now))) }
 {
     let mut scope = Scope::new(alloc);
-    let mut all = 0;
-    let items = program.items.as_slice();
-    'each: for item in items {
-        all = plus(all, item_weight(alloc, item, &mut scope)?);
-        scope.add_item(item)?;
-    }
-    Ok(all)
+    items_weight(alloc, program.items.as_slice(), &mut scope)
 }
 
 /// The breach of L27, at the first directive's name: the weight is above 2^20. `None` exactly where there is no

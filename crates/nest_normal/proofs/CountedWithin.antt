@@ -1,50 +1,32 @@
 -- A known count within outer loops: the nest stays steady and denotes the same.
-use Rattle.std.proofs.Common.{◌≡◌, refl, sym, ap, ◌∙◌, subst, ℕ, zero, suc, ◌+◌, ◌<◌, ◌^◌, List, [], ◌∷◌, ◌++◌, length, Result, Ok, Err, None, true, ℤ, arith}
-use Rattle.std.specs.Prelude.{map}
-use Rattle.std.proofs.lemmas.List.{length-map}
+use Rattle.std.proofs.Common.{◌≡◌, refl, sym, ap, ◌∙◌, subst, ℕ, zero, suc, ◌+◌, ◌<◌, ◌^◌, List, [], ◌∷◌, ◌++◌, Result, Ok, Err, None, true, ℤ, arith}
 use Rattle.c_tree.specs.Bare.{Name, Stmt, Stmts}
 use Rattle.c_tree.specs.declared.tree.Ty.{Ty}
 use Rattle.c_tree.specs.declared.arithmetic.Trap.{Trap}
 use Rattle.c_semantics.specs.Meaning.State.{Var, State}
 use Rattle.c_semantics.specs.Meaning.SimpleStatements.{Env}
-use Rattle.c_semantics.specs.Loops.IterationTrees.{Tree, body, do_all, loop, Trees, no_trees, more_trees, to_list, children, nth, put, put_all}
+use Rattle.c_semantics.specs.Loops.IterationTrees.{Tree, put}
 use Rattle.c_semantics.specs.Loops.Execution.{Body}
 use Rattle.loop_normal.specs.Frames.{AgreesBut}
 use Rattle.loop_normal.specs.Gens.{GenLoop, gen_loop, Nest, Seq, Looped}
 use Rattle.loop_normal.specs.Templates.{ll}
 use Rattle.loop_normal.specs.Denotes.{Calm, Value, PartMeans, LetsApart}
 use Rattle.loop_normal.proofs.FreshFrames.{value_num}
-use Rattle.nest_normal.specs.NestTexts.{declare_in, counted_to, at_loop, zero_at}
+use Rattle.nest_counts.specs.HasKinds.{turns}
+use Rattle.nest_counts.proofs.Source.{each_put, put_turns}
+use Rattle.nest_normal.specs.NestTexts.{declare_in, counted_to, at_loop, known_at, zero_at}
 use Rattle.nest_normal.specs.OuterVariables.{Outer, declaration_of, declared, puts}
 use Rattle.nest_normal.specs.NestDenotes.{IsSteady, NestMeans}
-use Rattle.nest_normal.specs.KnownCounts.{Turns, AllTurns}
-use Rattle.nest_normal.proofs.KnownCount.{zero_value, counted_means, lets_kept}
+use Rattle.nest_normal.specs.Spelled.{without_unread}
+use Rattle.nest_normal.specs.KnownCounts.{Turns, AllTurns, AllFresh, DeclaresOwn}
+use Rattle.nest_normal.proofs.KnownCount.{zero_value, known_means, lets_kept}
+use Rattle.nest_normal.proofs.UnreadLets.{unread_steady, unread_apart}
+use Rattle.nest_normal.proofs.UnreadWithin.{declared_unread}
 
 -- ---- values before the values of the bodies
 
-put_list : (z : ℤ) (ts : Trees) → to_list (put_all z ts) ≡ map (put z) (to_list ts)
-put_list z no_trees = refl
-put_list z (more_trees t ts) = ap (λ l. put z t ∷ l) (put_list z ts)
-
-put_children : (z : ℤ) (t : Tree) → children (put z t) ≡ map (put z) (children t)
-put_children z (body b vs) = refl
-put_children z (do_all ts) = put_list z ts
-put_children z (loop ts) = put_list z ts
-
-put_length : (z : ℤ) (t : Tree) → length (children (put z t)) ≡ length (children t)
-put_length z t = ap length (put_children z t) ∙ length-map (children t) (put z)
-
-nth_map : (z : ℤ) (i : ℕ) (ts : List Tree) → i < length ts → nth i (map (put z) ts) ≡ put z (nth i ts)
-nth_map z i [] h = absurd (omega (arith, h))
-nth_map z zero (t ∷ ts) h = refl
-nth_map z (suc i) (t ∷ ts) h = nth_map z i ts (omega (arith, h))
-
 turns_put : (d k : ℕ) (z : ℤ) (t : Tree) → Turns d k t → Turns d k (put z t)
-turns_put zero k z t h = put_length z t ∙ h
-turns_put (suc d) k z t h = λ i l.
-    let below : i < length (children t) = omega (arith, l, put_length z t) in
-    let one : put z (nth i (children t)) ≡ nth i (children (put z t)) = sym (ap (nth i) (put_children z t) ∙ nth_map z i (children t) below) in
-    subst (Turns d k) one (turns_put d k z (nth i (children t)) (h i below))
+turns_put d k z t h = each_put (λ u. turns u ≡ k) z d t (λ u e. put_turns z u ∙ e) h
 
 turns_puts : (d k : ℕ) (zs : List ℤ) (t : Tree) → Turns d k t → Turns d k (puts zs t)
 turns_puts d k [] t h = h
@@ -80,19 +62,30 @@ module _ (n : ℕ) (env : Env) (bs : List Body) (Out : Name → Type 0) where
   steady_counted (suc d) k (gen_loop ls c a b (Nest l)) p small e h = (h.0, h.1, h.2, h.3, h.4, h.5, steady_counted d k l h.0 small e h.6)
   steady_counted (suc d) k (gen_loop ls c a b (Seq ps)) p small e h = h
 
-  pub counted_within : Calm bs → (d k : ℕ) (own : List Name) (xs : List (Name × Ty)) (front : Stmts) (l : GenLoop) (s : State) (r : Result (List Tree) Trap) → zero_at d l ≡ true → k < 2 ^ 63 → AllTurns d k r →
-      NestMeans n env bs Out own xs front l s r → NestMeans n env bs Out own xs front (at_loop d (counted_to k None) l) s r
-  counted_within calm d k own xs front l s (Err x) e small turns h = h
-  counted_within calm d k own xs front l s (Ok []) e small turns h = h
-  counted_within calm d k own xs front l s (Ok (t ∷ u ∷ ts)) e small turns h = h
-  counted_within calm d k own xs front l s (Ok (t ∷ [])) e small turns h = (
+  -- without the declarations that nothing reads any more
+  pub known_steady : (d k : ℕ) (l : GenLoop) (p : List Var) → k < 2 ^ 63 → zero_at d l ≡ true → IsSteady n env bs Out l p → IsSteady n env bs Out (known_at d k None l) p
+  known_steady d k l p small e h = unread_steady n env bs Out (at_loop d (counted_to k None) l) p (steady_counted d k l p small e h)
+
+  ended_own : (own : List Name) (d k : ℕ) (l : GenLoop) → DeclaresOwn own l → DeclaresOwn own (at_loop d (counted_to k None) l)
+  ended_own own zero k (gen_loop ls c a b inner) h = h
+  ended_own own (suc d) k (gen_loop ls c a b (Nest l)) h = (h.0, ended_own own d k l h.1)
+  ended_own own (suc d) k (gen_loop ls c a b (Seq ps)) h = h
+
+  pub counted_within : Calm bs → (d k : ℕ) (own : List Name) (xs : List (Name × Ty)) (front : Stmts) (l : GenLoop) (s : State) (r : Result (List Tree) Trap) →
+      AllFresh Out own → DeclaresOwn own l → zero_at d l ≡ true → k < 2 ^ 63 → AllTurns d k r → NestMeans n env bs Out own xs front l s r → NestMeans n env bs Out own xs front (known_at d k None l) s r
+  counted_within calm d k own xs front l s (Err x) fresh lets e small turns h = h
+  counted_within calm d k own xs front l s (Ok []) fresh lets e small turns h = h
+  counted_within calm d k own xs front l s (Ok (t ∷ u ∷ ts)) fresh lets e small turns h = h
+  counted_within calm d k own xs front l s (Ok (t ∷ [])) fresh lets e small turns h = (
     h.0,
     h.1,
-    (λ p none. steady_counted d k l (h.0 ++ p) small e (h.2 p none)),
-    λ p os zs none is given.
-        let part = h.3 p os zs none is given in
-        let zero_ = declared_zero os d l ∙ e in
-        let means = counted_means n env bs Out calm d k None (declared os l) (h.0 ++ p) (puts zs t) zero_ small (turns_puts d k zs t turns.0) part.0 in
-        let apart = subst (λ ls. LetsApart ls (h.0 ++ p)) (sym (lets_kept n env bs Out calm d k None (declared os l))) part.1 in
-        subst (λ m. PartMeans n env bs Out (Looped m) (h.0 ++ p) (puts zs t)) (sym (declared_counted os d k l)) (means, apart),
+    (λ p none. known_steady d k l (h.0 ++ p) small e (h.2 p none)),
+    λ p os zs none is given others.
+        let part = h.3 p os zs none is given others in
+        let frame = h.0 ++ p in
+        let ended = at_loop d (counted_to k None) (declared os l) in
+        let same = declared_unread own Out fresh env.defines p os zs (at_loop d (counted_to k None) l) given others (ended_own own d k l lets) ∙ ap without_unread (declared_counted os d k l) in
+        let means = known_means n env bs Out calm d k None (declared os l) frame (puts zs t) (declared_zero os d l ∙ e) small (turns_puts d k zs t turns.0) part.0 in
+        let apart = subst (λ ls. LetsApart ls frame) (sym (lets_kept n env bs Out calm d k None (declared os l))) part.1 in
+        subst (λ m. PartMeans n env bs Out (Looped m) frame (puts zs t)) (sym same) (means, unread_apart ended frame apart),
   )

@@ -13,9 +13,8 @@ use Rattle.c_semantics.specs.Meaning.Statements.{exec_all}
 use Rattle.c_semantics.specs.Loops.Execution.{push_copies}
 use Rattle.c_semantics.specs.Laws.Apart.{Differ, Beside, here, there, BesideInFrame, RunsAlike}
 use Rattle.c_semantics.specs.Laws.Names.{UsesAll}
-use Rattle.c_semantics.proofs.Apart.{beside_local, not_shorter}
-use Rattle.c_semantics.proofs.FrameNames.{names, names-keep, SameNames}
-use Rattle.c_semantics.proofs.Grows.{length_write}
+use Rattle.c_semantics.proofs.Apart.{beside_local, find_beside, not_shorter, one_longer, write_beside}
+use Rattle.c_semantics.proofs.FrameNames.{names, names-keep, length-names, SameNames}
 use Rattle.c_semantics.proofs.Simulation.{Simulation, CalledAlike, list_alike}
 use Rattle.c_semantics.proofs.Touches.{uses-touches}
 
@@ -36,24 +35,7 @@ abbrev others : List Name → List Name
 others [] = []
 others (y ∷ ys) = ys
 
-name_count : (l : List Var) → length (names l) ≡ length l
-name_count [] = refl
-name_count (w ∷ l) = ap suc (name_count l)
-
 module _ (v : Var) (k : ℕ) where
-  find_beside : (x : Name) → Differ x v.name → (l m : List Var) → Beside v k l m → find x m ≡ find x l
-  find_beside x h l m (here b e) = ap (λ t. if t then Some v.cell else find x b) h
-  find_beside x h l m (there w {l = l'} {m = m'} p) = ap (λ o. if bytes_eq x w.name then Some w.cell else o) (find_beside x h l' m' p)
-
-  write_beside : (x : Name) (c : Cell) → Differ x v.name → (l m : List Var) → Beside v k l m → Beside v k (write x c l) (write x c m)
-  write_beside x c h l m (here b e) =
-      subst (λ t. Beside v k (write x c b) (if t then record { name = v.name; cell = c } ∷ b else v ∷ write x c b)) (sym h) (here (write x c b) (length_write x c b ∙ e))
-  write_beside x c h l m (there w {l = l'} {m = m'} p) = by (write_beside x c h l' m' p) (bytes_eq x w.name)
-    where
-      by : Beside v k (write x c l') (write x c m') → (t : Bool) → Beside v k (if t then record { name = w.name; cell = c } ∷ l' else w ∷ write x c l') (if t then record { name = w.name; cell = c } ∷ m' else w ∷ write x c m')
-      by q true = there _ p
-      by q false = there w q
-
   beside : (l m : List Var) → Under v k l m → Beside v k l m
   beside l m (hides w e p) = there w p
   beside l m (deeper w {l = l'} {m = m'} p) = there w (beside l' m' p)
@@ -63,7 +45,7 @@ module _ (v : Var) (k : ℕ) where
     where
       by : (t : Bool) → bytes_eq x w.name ≡ t → (if t then Some w.cell else find x m') ≡ (if t then Some w.cell else find x l')
       by true q = refl
-      by false q = find_beside x (subst (λ y. bytes_eq x y ≡ false) e q) l' m' p
+      by false q = find_beside v k x (subst (λ y. bytes_eq x y ≡ false) e q) l' m' p
   find_under x l m (deeper w {l = l'} {m = m'} p) = ap (λ o. if bytes_eq x w.name then Some w.cell else o) (find_under x l' m' p)
 
   write_under : (x : Name) (c : Cell) (l m : List Var) → Under v k l m → Under v k (write x c l) (write x c m)
@@ -71,16 +53,12 @@ module _ (v : Var) (k : ℕ) where
     where
       by : (t : Bool) → bytes_eq x w.name ≡ t → Under v k (if t then record { name = w.name; cell = c } ∷ l' else w ∷ write x c l') (if t then record { name = w.name; cell = c } ∷ m' else w ∷ write x c m')
       by true q = hides _ e p
-      by false q = hides w e (write_beside x c (subst (λ y. bytes_eq x y ≡ false) e q) l' m' p)
+      by false q = hides w e (write_beside v k x c (subst (λ y. bytes_eq x y ≡ false) e q) l' m' p)
   write_under x c l m (deeper w {l = l'} {m = m'} p) = by (write_under x c l' m' p) (bytes_eq x w.name)
     where
       by : Under v k (write x c l') (write x c m') → (t : Bool) → Under v k (if t then record { name = w.name; cell = c } ∷ l' else w ∷ write x c l') (if t then record { name = w.name; cell = c } ∷ m' else w ∷ write x c m')
       by q true = deeper _ p
       by q false = deeper w q
-
-  one_longer : (l m : List Var) → Beside v k l m → length m ≡ suc (length l)
-  one_longer l m (here b e) = refl
-  one_longer l m (there w {l = l'} {m = m'} p) = ap suc (one_longer l' m' p)
 
   long_enough : (l m : List Var) → Under v k l m → suc k ≤ length l
   long_enough l m (hides w {l = l'} {m = m'} e p) = let q = not_shorter v k l' m' p in omega (arith, q)
@@ -119,7 +97,7 @@ module _ (v : Var) (k : ℕ) where
       let r = (beside_local v k).left [] s t u w (in_frame_beside s t p) (in_frame_beside u w q) n in
       let kept = keep (length s.frame) u.frame in
       let same : names kept ≡ names s.frame = names-keep s u n in
-      (r.0, same_place s.frame p.0 p.1 kept r.0 same (sym (name_count kept) ∙ ap length same ∙ name_count s.frame) r.1, r.2)
+      (r.0, same_place s.frame p.0 p.1 kept r.0 same (sym (length-names kept) ∙ ap length same ∙ length-names s.frame) r.1, r.2)
 
   hidden_local : Simulation Hides AnyName
   hidden_local = record {
@@ -167,7 +145,7 @@ module _ (v : Var) (k : ℕ) where
       ap (λ i. drop i (v ∷ b)) one ∙ sym (ap (λ i. drop i b) none)
   keep_same l m (there w {l = l'} {m = m'} p) =
       let low = not_shorter v k l' m' p in
-      let more = one_longer l' m' p in
+      let more = one_longer v k l' m' p in
       let up : suc (length m') - k ≡ suc (length m' - k) = omega (arith, low, more) in
       let down : suc (length l') - k ≡ suc (length l' - k) = omega (arith, low) in
       ap (λ i. drop i (w ∷ m')) up ∙ keep_same l' m' p ∙ sym (ap (λ i. drop i (w ∷ l')) down)

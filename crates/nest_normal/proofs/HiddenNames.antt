@@ -10,16 +10,16 @@ use Rattle.nest_normal.specs.NestTexts.{nest_of, innermost, declares, declare_in
 
 -- ---- by one variable more
 
-or_true : (a : Bool) → (if a then true else false) ≡ a
-or_true true = refl
-or_true false = refl
+pub or_false : (a : Bool) → (if a then true else false) ≡ a
+or_false true = refl
+or_false false = refl
 
 as_or : (a b : Bool) → (if a then true else b) ≡ (a || b)
 as_or true b = refl
 as_or false b = refl
 
 pub innermost_hides : (m : LoopNames) (h : SourceLoop) (x : Name) (as' : Stmts) → hides (innermost m h as') x ≡ bytes_eq x h.var
-innermost_hides m h x as' = or_true (bytes_eq x h.var)
+innermost_hides m h x as' = or_false (bytes_eq x h.var)
 
 module _ (T : Ty) (y : Name) (e : Expr) (x : Name) where
   -- a name that is hidden already

@@ -1,5 +1,5 @@
 -- The list below the innermost loop: the variables that aren't hidden, and the body as a block.
-use Rattle.std.proofs.Common.{◌≡◌, refl, sym, ap, ◌∙◌, ℕ, suc, ◌+◌, ◌≤◌, List, [], ◌∷◌, length, Some, None, Bool, true, false, ℤ, slice_get, arith, length-append}
+use Rattle.std.proofs.Common.{◌≡◌, refl, sym, ap, ◌∙◌, ℕ, ◌+◌, ◌≤◌, List, [], ◌∷◌, length, Some, None, Bool, true, false, ℤ, slice_get, arith, length-append}
 use Rattle.std.specs.Prelude.{if◌then◌else◌}
 use Rattle.c_tree.specs.Bare.{Name, block, Stmts, no_stmts, more_stmts}
 use Rattle.c_semantics.specs.Meaning.State.{scalar, Var, State, find, push}
@@ -8,7 +8,7 @@ use Rattle.c_semantics.specs.Meaning.SimpleStatements.{Env, function_named}
 use Rattle.c_semantics.specs.Meaning.Statements.{exec_all}
 use Rattle.c_semantics.specs.Loops.IterationTrees.{body}
 use Rattle.c_semantics.specs.Loops.Execution.{Body, push_copies, run_body}
-use Rattle.c_semantics.proofs.FrameNames.{names, SameNames, names_kept, function_names}
+use Rattle.c_semantics.proofs.FrameNames.{names, SameNames, names_kept, function_names, length-names}
 use Rattle.c_semantics.proofs.Grows.{LongerFrame, frames_grow}
 use Rattle.c_semantics.proofs.Invariant.{copies_keep, list_keeps}
 use Rattle.loop_normal.specs.Frames.{above, run_above}
@@ -22,21 +22,17 @@ use Rattle.nest_normal.specs.OuterVariables.{Outer, declaration_of, typed, Agree
 use Rattle.nest_normal.proofs.HiddenCopies.{hidden_gone}
 use Rattle.nest_normal.proofs.OuterLists.{visible, declares_some}
 
-name_count : (l : List Var) → length (names l) ≡ length l
-name_count [] = refl
-name_count (w ∷ l) = ap suc (name_count l)
-
 -- a list of statements takes no variable away
-pub list_grows : (n : ℕ) (env : Env) (as' : Stmts) → GrowsFrame (exec_all n env as')
+list_grows : (n : ℕ) (env : Env) (as' : Stmts) → GrowsFrame (exec_all n env as')
 list_grows n env as' s =
     let r = (exec_all n env as' s).state in
     let h = list_keeps SameNames names_kept n env (λ x. function_names (function_named x env.functions)) as' s in
     let e : length r.frame ≡ length h.0 + length s.frame =
-    sym (name_count r.frame) ∙ ap length h.1 ∙ length-append h.0 (names s.frame) ∙ ap (λ k. length h.0 + k) (name_count s.frame) in
+    sym (length-names r.frame) ∙ ap length h.1 ∙ length-append h.0 (names s.frame) ∙ ap (λ k. length h.0 + k) (length-names s.frame) in
     omega (arith, e)
 
 -- a variable that isn't fresh hides nothing that is
-pub agrees_source : (Out : Name → Type 0) (v : Var) (p f : List Var) → Source Out v.name → AgreesOn Out p f → AgreesOn Out p (v ∷ f)
+agrees_source : (Out : Name → Type 0) (v : Var) (p f : List Var) → Source Out v.name → AgreesOn Out p f → AgreesOn Out p (v ∷ f)
 agrees_source Out v p f h a x c o e = ap (λ t. if t then Some v.cell else find x f) (differ_sym v.name x (h x o)) ∙ a x c o e
 
 pub given_in : (Out : Name → Type 0) (n : ℕ) (env : Env) (p q : List Var) (ds : List Outer) (zs : List ℤ) → AgreesOn Out p q → Given Out env.defines p ds zs → Given Out env.defines q ds zs

@@ -19,8 +19,9 @@ use Rattle.loop_normal.proofs.FreshFrames.{value_num, find_other, find_append}
 use Rattle.loop_normal.proofs.Lets.{value_one, lets_new}
 use Rattle.loop_normal.proofs.Members.{to_of, length_members, nth_members}
 use Rattle.loop_normal.proofs.Rebase.{fixed_means}
-use Rattle.nest_normal.specs.NestTexts.{nest_of, counted_to, at_loop, with_count}
+use Rattle.nest_normal.specs.NestTexts.{nest_of, counted_to, at_loop, known_at, with_count}
 use Rattle.nest_normal.specs.KnownCounts.{Turns, AllTurns, IsCounterFor, UndeclaredIf}
+use Rattle.nest_normal.proofs.UnreadLets.{unread_means, unread_apart}
 
 -- ---- the literal 0
 
@@ -99,6 +100,10 @@ module _ (n : ℕ) (env : Env) (bs : List Body) (Out : Name → Type 0) (calm : 
             (subst (Turns d k) one (e i (omega (arith, wide)))) (h.below i y);
       }
 
+  -- without the declarations that nothing reads any more
+  pub known_means : (d k : ℕ) (r : Option Name) (l : GenLoop) (p : List Var) (t : Tree) → IsCounterFor Out r d l p → k < 2 ^ 63 → Turns d k t → Means l p t → Means (known_at d k r l) p t
+  known_means d k r l p t new small e h = unread_means n env bs Out calm (at_loop d (counted_to k r) l) p t (counted_means d k r l p t new small e h)
+
   pub lets_kept : (d k : ℕ) (r : Option Name) (l : GenLoop) → lets_of (at_loop d (counted_to k r) l) ≡ lets_of l
   lets_kept zero k None (gen_loop ls c a b inner) = refl
   lets_kept zero k (Some r) (gen_loop ls c a b inner) = refl
@@ -118,4 +123,4 @@ module _ (n : ℕ) (env : Env) (bs : List Body) (Out : Name → Type 0) (calm : 
   counted_gen_means d k r front l p s (Ok (t ∷ [])) new u small e h =
       let at = counter_after r d front l h.0 p h.1.2 u new in
       let apart = subst (λ ls. LetsApart ls (h.0 ++ p)) (sym (lets_kept d k r l)) h.2.0.1 in
-      (h.0, h.1, ((counted_means d k r l (h.0 ++ p) t at small e.0 h.2.0.0, apart), tt))
+      (h.0, h.1, ((known_means d k r l (h.0 ++ p) t at small e.0 h.2.0.0, unread_apart (at_loop d (counted_to k r) l) (h.0 ++ p) apart), tt))

@@ -19,10 +19,10 @@ use Rattle.loop_normal.specs.FreshNames.{Among, NamesNone, Apart}
 use Rattle.loop_normal.specs.Laws.{source_loop}
 use Rattle.loop_normal.proofs.FreshFrames.{not_none}
 use Rattle.nest_normal.specs.NestTexts.{nest_of, innermost, declare_in, declare_below, loop_round}
-use Rattle.nest_normal.specs.OuterVariables.{Outer, declaration_of, declared, puts}
+use Rattle.nest_normal.specs.OuterVariables.{Outer, declared, puts}
 use Rattle.nest_normal.specs.NestDenotes.{HasNone, IsSteady, SteadyBelow, Within, NestMeans}
 use Rattle.nest_normal.specs.Laws.{IsSource, with_names}
-use Rattle.nest_normal.proofs.OuterLists.{declared_loop, declared_nest, declared_more, declared_parts, declared_seq, visible, visible_more, parts_visible, puts_body}
+use Rattle.nest_normal.proofs.OuterLists.{declared_round, declared_parts, declared_leaf, visible, visible_more, parts_visible, puts_body}
 use Rattle.nest_normal.proofs.Innermost.{body_turns}
 use Rattle.nest_normal.proofs.RoundNests.{var_declared, loop_code, loop_within}
 
@@ -33,7 +33,7 @@ module _ (n : ℕ) (env : Env) (bs : List Body) (Out : Name → Type 0) where
   within_map own xs front S S' M M' s (Err x) g f h = h
   within_map own xs front S S' M M' s (Ok []) g f h = absurd h
   within_map own xs front S S' M M' s (Ok (t ∷ u ∷ ts)) g f h = absurd h
-  within_map own xs front S S' M M' s (Ok (t ∷ [])) g f h = (h.0, h.1, (λ p a. g (h.0 ++ p) (h.2 p a)), λ p os zs a b c. f os (h.0 ++ p) (puts zs t) (h.3 p os zs a b c))
+  within_map own xs front S S' M M' s (Ok (t ∷ [])) g f h = (h.0, h.1, (λ p a. g (h.0 ++ p) (h.2 p a)), λ p os zs a b c d. f os (h.0 ++ p) (puts zs t) (h.3 p os zs a b c d))
 
   -- what is below a loop, weakened
   loop_inner : (ls : Stmts) (c : Name) (a b : Expr) (i j : Inner) (p : List Var) (t : Tree) → ((q : List Var) (u : Tree) → InnerMeans n env bs Out i q u → InnerMeans n env bs Out j q u) →
@@ -65,7 +65,7 @@ module _ (n : ℕ) (env : Env) (bs : List Body) (Out : Name → Type 0) where
   nest_means own front l p s (Err x) none h = λ f a o. h f o
   nest_means own front l p s (Ok []) none h = absurd h
   nest_means own front l p s (Ok (t ∷ u ∷ ts)) none h = absurd h
-  nest_means own front l p s (Ok (t ∷ [])) none h = (h.0, (h.1.0, (λ f a o. h.1.1 f (λ x c e. absurd (not_none c e)) o), h.1.2), (h.3 p [] [] none refl tt, tt))
+  nest_means own front l p s (Ok (t ∷ [])) none h = (h.0, (h.1.0, (λ f a o. h.1.1 f (λ x c e. absurd (not_none c e)) o), h.1.2), (h.3 p [] [] none refl tt tt, tt))
 
 module _ (n : ℕ) (env : Env) (names : List Name) (bs : List Body) (c : Canonical) (T : Ty) (m : LoopNames) (source : IsSource names m c) (xs : List (Name × Ty)) (s : State) (typed_so : loop_type env.defines s c ≡ T) where
   abbrev Out : Name → Type 0
@@ -79,11 +79,6 @@ module _ (n : ℕ) (env : Env) (names : List Name) (bs : List Body) (c : Canonic
     abbrev nest_code : List Outer → Inner
     nest_code os = Nest (declared os l)
 
-    round_code : (os : List Outer) → gen_loop no_stmts m.counter (ll 0) (read m.count) (nest_code (os ++ var_ ∷ [])) ≡ declared os (loop_round m (source_loop c T) l)
-    round_code os =
-        sym (declared_loop os no_stmts m.counter (ll 0) (read m.count) (Nest (declare_in (source_var m (source_loop c T)) l))
-        ∙ ap (gen_loop no_stmts m.counter (ll 0) (read m.count)) (declared_nest os (declare_in (declaration_of var_) l) ∙ ap Nest (declared_more os var_ l)))
-
     pub round_means : (r : Result (List Tree) Trap) → NestMeans n env bs Out own (xs ++ (c.var, T) ∷ []) front l s r →
         NestMeans n env bs Out (with_names m own) xs (source_front m (source_loop c T) front) (loop_round m (source_loop c T) l) s (and_then (entry env.defines s c) (λ e. and_then r (λ ts. Ok (loop_over e ts))))
     round_means r h =
@@ -92,7 +87,7 @@ module _ (n : ℕ) (env : Env) (names : List Name) (bs : List Body) (c : Canonic
         let inner = within_map n env bs Out own (xs ++ (c.var, T) ∷ []) front (IsSteady n env bs Out l) (SteadyBelow n env bs Out bare) (λ os p t. PartMeans n env bs Out (Looped (declared os l)) p t) (λ os p t. InnerMeans n env bs Out (nest_code os) p t) s r (λ p k. steady_declared n env bs Out d l p k) (λ os p t k. k.0) h in
         within_map n env bs Out (with_names m own) xs (source_front m (source_loop c T) front) (IsSteady n env bs Out (loop_round m (source_loop c T) l)) (IsSteady n env bs Out (loop_round m (source_loop c T) l))
         (λ os p t. LoopMeans n env bs Out (loop_code n env names bs c T m source own xs front bare nest_code new unseen s os) p t) (λ os p t. PartMeans n env bs Out (Looped (declared os (loop_round m (source_loop c T) l))) p t) s _ (λ p k. k)
-        (λ os p t k. subst (λ g. PartMeans n env bs Out (Looped g) p t) (round_code os) (k, tt))
+        (λ os p t k. subst (λ g. PartMeans n env bs Out (Looped g) p t) (sym (declared_round os m (source_loop c T) l)) (k, tt))
         (loop_within n env names bs c T m source own xs front bare nest_code new unseen s r inner typed_so)
 
   -- ---- round a body
@@ -114,13 +109,10 @@ module _ (n : ℕ) (env : Env) (names : List Name) (bs : List Body) (c : Canonic
       [],
       (tt, (λ f a o. refl), λ x u. refl),
       (λ p none. tt),
-      λ p os zs none is given.
+      λ p os zs none is given apart_.
           let turns = body_turns n env Out as' apart m.begin source.fresh.0 bs p b os zs (at ∙ ap {B = Option Body} (λ vs. Some (record { vars = vs; run = exec_all n env as' })) (sym is)) given in
           subst (λ l. Turns n env bs Out p l (puts zs (body b []))) (sym (parts_visible os block_parts)) (subst (Turns n env bs Out p (visible os (only (block as')))) (sym (puts_body b zs)) turns),
     )
-
-    leaf_code : (os : List Outer) → gen_loop no_stmts m.counter (ll 0) (read m.count) (Seq (declared_parts os leaf_parts)) ≡ declared os (innermost m (source_loop c T) as')
-    leaf_code os = sym (declared_loop os no_stmts m.counter (ll 0) (read m.count) (Seq leaf_parts) ∙ ap (gen_loop no_stmts m.counter (ll 0) (read m.count)) (declared_seq os leaf_parts))
 
     pub innermost_means : NestMeans n env bs Out (with_names m []) xs (source_front m (source_loop c T) no_stmts) (innermost m (source_loop c T) as') s (and_then (entry env.defines s c) (λ r. Ok (loop_over r (body b [] ∷ []))))
     innermost_means =
@@ -128,6 +120,6 @@ module _ (n : ℕ) (env : Env) (names : List Name) (bs : List Body) (c : Canonic
         let unseen : Undeclared m.count no_stmts × Undeclared m.counter no_stmts = (tt, tt) in
         within_map n env bs Out (with_names m []) xs (source_front m (source_loop c T) no_stmts) (IsSteady n env bs Out (innermost m (source_loop c T) as')) (IsSteady n env bs Out (innermost m (source_loop c T) as'))
         (λ os p t. LoopMeans n env bs Out (loop_code n env names bs c T m source [] xs no_stmts (Seq leaf_parts) body_code none unseen s os) p t) (λ os p t. PartMeans n env bs Out (Looped (declared os (innermost m (source_loop c T) as'))) p t) s _ (λ p k. k)
-        (λ os p t k. subst (λ g. PartMeans n env bs Out (Looped g) p t) (leaf_code os)
+        (λ os p t k. subst (λ g. PartMeans n env bs Out (Looped g) p t) (sym (declared_leaf os no_stmts m.counter (ll 0) (read m.count) leaf_parts))
         (loop_inner n env bs Out no_stmts m.counter (ll 0) (read m.count) (body_code (os ++ var_ ∷ [])) (Seq (declared_parts os leaf_parts)) p t (λ q u h. subst (λ l. Turns n env bs Out q l u) (same_stmts os) h) k, tt))
         (loop_within n env names bs c T m source [] xs no_stmts (Seq leaf_parts) body_code none unseen s (Ok (body b [] ∷ [])) inner_body typed_so)

@@ -1,6 +1,6 @@
 -- A loop round the code of a nest, or round the innermost list: for all values of the outer variables.
 use Rattle.std.proofs.Common.{◌≡◌, refl, sym, ap, ◌∙◌, subst, ℕ, ◌+◌, ◌<◌, List, [], ◌∷◌, ◌++◌, Some, None, Result, Ok, Err, Bool, true, false, ℤ, pos, arith, append_assoc}
-use Rattle.std.specs.Prelude.{bytes_eq, if◌then◌else◌}
+use Rattle.std.specs.Prelude.{bytes_eq, nat_abs, if◌then◌else◌}
 use Rattle.std.proofs.lemmas.Slice.Eq.{bytes_eq-Decides}
 use Rattle.c_tree.specs.Bare.{Name, Expr, read, decl, Stmts, no_stmts, more_stmts}
 use Rattle.c_tree.specs.declared.tree.Ty.{Ty}
@@ -17,10 +17,11 @@ use Rattle.c_semantics.specs.Loops.TripCount.{Range, count, entry, loop_type, va
 use Rattle.c_semantics.specs.Loops.IterationTrees.{Tree, put}
 use Rattle.c_semantics.specs.Loops.Forest.{loop_over}
 use Rattle.c_semantics.specs.Loops.Execution.{Body}
+use Rattle.c_semantics.specs.Laws.Names.{Names}
 use Rattle.c_semantics.proofs.Evals.{value_same}
 use Rattle.loop_normal.specs.Frames.{above, long, Agrees, AgreesBut, Foreign}
 use Rattle.loop_normal.specs.Gens.{GenLoop, gen_loop, Inner}
-use Rattle.loop_normal.specs.Templates.{ll, LoopNames, count_expr, value_expr, source_front}
+use Rattle.loop_normal.specs.Templates.{ll, LoopNames, count_expr, is_up, signed_literal, value_expr, source_front}
 use Rattle.loop_normal.specs.Denotes.{Value, LoopMeans, InnerMeans, Undeclared}
 use Rattle.loop_normal.specs.FreshNames.{Among, Apart}
 use Rattle.loop_normal.specs.Laws.{source_loop}
@@ -28,9 +29,10 @@ use Rattle.loop_normal.proofs.FreshFrames.{value_num, value_read, found_top, fou
 use Rattle.loop_normal.proofs.Leaf.{Worth, held, count_fits, source_value, then_all, bound_first}
 use Rattle.loop_normal.proofs.Values.{worth}
 use Rattle.loop_normal.proofs.Weaker.{inner_more}
-use Rattle.nest_normal.specs.OuterVariables.{Outer, Given, puts}
+use Rattle.nest_normal.specs.OuterVariables.{Outer, Given, ValuesApart, puts}
 use Rattle.nest_normal.specs.NestDenotes.{HasNone, IsSteady, SteadyBelow, Within}
 use Rattle.nest_normal.specs.Laws.{IsSource, with_names}
+use Rattle.nest_normal.proofs.NamesMore.{names_more}
 use Rattle.nest_normal.proofs.OuterLists.{typed_more, puts_more, puts_loop}
 use Rattle.nest_normal.proofs.Innermost.{given_in}
 use Rattle.nest_normal.proofs.Outer.{has_none_push, given_more}
@@ -162,6 +164,15 @@ module _ (n : ℕ) (env : Env) (names : List Name) (bs : List Body) (c : Canonic
           (a m.counter _ source.fresh.3 (found_top m.counter (0 + i) (fronts lb ub k ++ p))))
           (given_in Out n env p (inside i) os zs (λ x d o q. fits_inside i x d q) h)
 
+    step_apart : (b : Bool) (k : ℕ) → Names (λ y. Apart y own) (signed_literal b k)
+    step_apart true k = tt
+    step_apart false k = tt
+
+    -- the loop's own variable besides: its value names the begin and the counter
+    apart_inside : (os : List Outer) → ValuesApart (with_names m own) os → ValuesApart own (os ++ var_declared ∷ [])
+    apart_inside [] h = ((new.0, (new.3, step_apart (is_up c.step) (nat_abs c.step))), tt)
+    apart_inside (d ∷ os) h = (names_more (λ y. Apart y (with_names m own)) (λ y. Apart y own) (λ y a. a.1.1.1.1) d.value h.0, apart_inside os h.1)
+
     by_inner : (lb ub : ℤ) (k : ℕ) → count c.test c.step lb ub ≡ Ok k → and_then (eval ds s c.lb) (convert T) ≡ Ok lb → and_then (eval ds s c.ub) (convert T) ≡ Ok ub → (r : Result (List Tree) Trap) → InnerWithin r →
         LoopWithin (and_then r (λ ts. Ok (loop_over (range_ lb ub k) ts)))
     by_inner lb ub k e e0 e1 (Err x) h = λ f o.
@@ -183,7 +194,7 @@ module _ (n : ℕ) (env : Env) (names : List Name) (bs : List Body) (c : Canonic
               let frame = (h.0 ++ l) ++ p in
               let F = AgreesBut m.counter frame in
               (frame, refl, 0, k, value_num ds F 0 (omega arith), stops lb ub k e h.0 p (h.1.2 m.count unseen.0), subst (SteadyBelow n env bs Out bare) (sym (append_assoc h.0 l p)) (h.2 (l ++ p) (none_fronts lb ub k p none)))),
-          λ p os zs none is given.
+          λ p os zs none is given others.
               let frame = (h.0 ++ l) ++ p in
               let same : frame ≡ h.0 ++ (l ++ p) = append_assoc h.0 l p in
               record {
@@ -199,7 +210,7 @@ module _ (n : ℕ) (env : Env) (names : List Name) (bs : List Body) (c : Canonic
                 below = λ i y.
                     let v3 = long m.counter (0 + i) in
                     let z = value_at (range_ lb ub k) i in
-                    let one = h.3 (v3 ∷ (l ++ p)) (os ++ var_declared ∷ []) (zs ++ z ∷ []) (none_inside lb ub k e e0 e1 p none i) (typed_more os var_declared ∙ ap (λ xs. xs ++ (c.var, T) ∷ []) is) (given_inside lb ub k e e0 e1 p none i y os zs given) in
+                    let one = h.3 (v3 ∷ (l ++ p)) (os ++ var_declared ∷ []) (zs ++ z ∷ []) (none_inside lb ub k e e0 e1 p none i) (typed_more os var_declared ∙ ap (λ xs. xs ++ (c.var, T) ∷ []) is) (given_inside lb ub k e e0 e1 p none i y os zs given) (apart_inside os others) in
                     let moved : Agrees (h.0 ++ v3 ∷ (l ++ p)) (v3 ∷ frame) = subst (λ g. Agrees (h.0 ++ v3 ∷ (l ++ p)) (v3 ∷ g)) (sym same) (agrees_below v3 h.0 (l ++ p) (h.1.2 m.counter unseen.1)) in
                     inner_more n env bs Out (code (os ++ var_declared ∷ [])) (h.0 ++ v3 ∷ (l ++ p)) (v3 ∷ frame) (puts zs (put z t)) moved (subst (InnerMeans n env bs Out (code (os ++ var_declared ∷ [])) (h.0 ++ v3 ∷ (l ++ p))) (puts_more zs z t) one);
               },

@@ -1,5 +1,5 @@
 -- What the code of a nest shows.
-use Rattle.std.proofs.Common.{◌≡◌, refl, sym, ap, ◌∙◌, ℕ, zero, suc, List, [], ◌∷◌, ◌++◌, None, Bool, true, false}
+use Rattle.std.proofs.Common.{◌≡◌, refl, ap, ◌∙◌, ℕ, zero, suc, List, [], ◌∷◌, ◌++◌, None, Bool, true, false}
 use Rattle.std.specs.Prelude.{if◌then◌else◌}
 use Rattle.std.proofs.lemmas.List.{append-nil}
 use Rattle.c_tree.specs.Bare.{read, block, Stmts, no_stmts, more_stmts}
@@ -9,11 +9,11 @@ use Rattle.c_semantics.specs.Structure.Parts.{For, Shape, shapes_of, nested}
 use Rattle.c_semantics.specs.Structure.Parts as parts
 use Rattle.c_semantics.specs.Structure.Skeleton.{shapes, all_shapes, scope_after}
 use Rattle.loop_normal.specs.Gens.{GenLoop, gen_loop, Nest, Seq, Plain, Parts, no_parts, more_parts, join, loop_stmts, parts_stmts, emit}
-use Rattle.loop_normal.specs.Templates.{ll, only, LoopNames, SourceLoop, source_var, source_front, value_expr}
-use Rattle.nest_normal.specs.NestTexts.{nest_of, innermost, declares, declare_in, loop_round, at_loop, counted_to}
-use Rattle.nest_normal.specs.OuterVariables.{Outer, declaration_of, declared}
+use Rattle.loop_normal.specs.Templates.{ll, only, LoopNames, SourceLoop, source_var, source_front}
+use Rattle.nest_normal.specs.NestTexts.{nest_of, innermost, declares, loop_round, at_loop, counted_to}
+use Rattle.nest_normal.specs.OuterVariables.{Outer, declaration_of}
 use Rattle.nest_normal.specs.Outlines.{Shows, ShowsNothing, NestShows}
-use Rattle.nest_normal.proofs.OuterLists.{declared_loop, declared_nest, declared_more, declared_parts, declared_seq, visible, parts_visible}
+use Rattle.nest_normal.proofs.OuterLists.{variable_of, declared_round, declared_parts, declared_leaf, visible, parts_visible}
 
 join_none : (a : Stmts) → join a no_stmts ≡ a
 join_none no_stmts = refl
@@ -30,28 +30,17 @@ module _ (ds : List Define) where
       by false k = λ s. k (scope_after (declaration_of d) s)
 
   module _ (m : LoopNames) (h : SourceLoop) where
-    abbrev var_ : Outer
-    var_ = record { ty = h.ty; name = h.var; value = value_expr h.ty h.step m.begin m.counter }
-
     abbrev leaf_parts : Stmts → Parts
     leaf_parts as' = more_parts (Plain (more_stmts (source_var m h) (only (block as')))) no_parts
-
-    leaf_code : (as' : Stmts) (os : List Outer) → gen_loop no_stmts m.counter (ll 0) (read m.count) (Seq (declared_parts os (leaf_parts as'))) ≡ declared os (innermost m h as')
-    leaf_code as' os = sym (declared_loop os no_stmts m.counter (ll 0) (read m.count) (Seq (leaf_parts as')) ∙ ap (gen_loop no_stmts m.counter (ll 0) (read m.count)) (declared_seq os (leaf_parts as')))
-
-    round_code : (l : GenLoop) (os : List Outer) → gen_loop no_stmts m.counter (ll 0) (read m.count) (Nest (declared (os ++ var_ ∷ []) l)) ≡ declared os (loop_round m h l)
-    round_code l os =
-        sym (declared_loop os no_stmts m.counter (ll 0) (read m.count) (Nest (declare_in (source_var m h) l))
-        ∙ ap (gen_loop no_stmts m.counter (ll 0) (read m.count)) (declared_nest os (declare_in (source_var m h) l) ∙ ap Nest (declared_more os var_ l)))
 
     pub innermost_shows : (as' : Stmts) (xs : List Shape) → Shows ds as' xs → NestShows ds (innermost m h as') (nested 1 xs)
     innermost_shows as' xs e os s =
         let list : Shows ds (parts_stmts (leaf_parts as')) xs = λ u. ap (λ z. z ++ []) (e (scope_after (source_var m h) u)) ∙ append-nil xs in
         let inside : Shows ds (parts_stmts (declared_parts os (leaf_parts as'))) xs = λ u. ap (all_shapes ds u) (parts_visible os (leaf_parts as')) ∙ visible_shows os (parts_stmts (leaf_parts as')) xs list u in
-        ap (λ l. all_shapes ds s (loop_stmts l)) (sym (leaf_code as' os)) ∙ ap (λ z. parts.round For (shapes_of z) ∷ []) (inside _)
+        ap (λ l. all_shapes ds s (loop_stmts l)) (declared_leaf os no_stmts m.counter (ll 0) (read m.count) (leaf_parts as')) ∙ ap (λ z. parts.round For (shapes_of z) ∷ []) (inside _)
 
     pub round_shows : (l : GenLoop) (xs : List Shape) → NestShows ds l xs → NestShows ds (loop_round m h l) (nested 1 xs)
-    round_shows l xs e os s = ap (λ l. all_shapes ds s (loop_stmts l)) (sym (round_code l os)) ∙ ap (λ z. parts.round For (shapes_of z) ∷ []) (e (os ++ var_ ∷ []) _)
+    round_shows l xs e os s = ap (λ l. all_shapes ds s (loop_stmts l)) (declared_round os m h l) ∙ ap (λ z. parts.round For (shapes_of z) ∷ []) (e (os ++ variable_of m h ∷ []) _)
 
     pub front_shows : (front : Stmts) → ShowsNothing ds front → ShowsNothing ds (source_front m h front)
     front_shows front e rest xs k s = e rest xs k _

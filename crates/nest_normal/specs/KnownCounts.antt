@@ -1,11 +1,12 @@
 -- Loops of a known count: at each place of a tree, and with a new name for their counter.
 use Rattle.std.specs.Prelude.{◌≡◌, ℕ, zero, suc, List, [], ◌∷◌, Result, Ok, Err, Option, Some, None, true}
-use Rattle.c_tree.specs.Bare.{Name, Stmts}
+use Rattle.c_tree.specs.Bare.{Name, decl, Stmts, no_stmts, more_stmts}
 use Rattle.c_tree.specs.declared.arithmetic.Trap.{Trap}
 use Rattle.c_semantics.specs.Meaning.State.{Var, find}
+use Rattle.c_semantics.specs.Meaning.FileVariables.{has_name}
 use Rattle.c_semantics.specs.Loops.IterationTrees.{Tree}
 use Rattle.c_semantics.specs.Laws.Apart.{Differ}
-use Rattle.loop_normal.specs.Gens.{GenLoop, gen_loop, Nest, Seq}
+use Rattle.loop_normal.specs.Gens.{GenLoop, gen_loop, Inner, Nest, Seq}
 use Rattle.loop_normal.specs.Denotes.{Undeclared}
 use Rattle.nest_counts.specs.HasKinds.{turns, EachBelow}
 use Rattle.nest_normal.specs.NestTexts.{zero_at}
@@ -36,3 +37,23 @@ IsCounterFor Out (Some r) d l p = Out r × (find r p ≡ None) × NewTo r d l
 abbrev pub UndeclaredIf : Option Name → Stmts → Type 0
 UndeclaredIf None front = Unit {0}
 UndeclaredIf (Some r) front = Undeclared r front
+
+-- ---- names of a nest's own
+
+-- they are fresh names
+abbrev pub AllFresh : (Name → Type 0) → List Name → Type 0
+AllFresh Out own = (x : Name) → has_name own x ≡ true → Out x
+
+-- and the declarations before the loops of a nest have no others
+abbrev pub LetsAmong : List Name → Stmts → Type 0
+LetsAmong own no_stmts = Unit {0}
+LetsAmong own (more_stmts (decl t x e) ls) = (has_name own x ≡ true) × LetsAmong own ls
+LetsAmong own (more_stmts a ls) = LetsAmong own ls
+
+abbrev mutual
+  pub DeclaresOwn : List Name → GenLoop → Type 0
+  DeclaresOwn own (gen_loop ls c a b inner) = LetsAmong own ls × DeclaresOwnBelow own inner
+
+  pub DeclaresOwnBelow : List Name → Inner → Type 0
+  DeclaresOwnBelow own (Nest l) = DeclaresOwn own l
+  DeclaresOwnBelow own (Seq ps) = Unit {0}

@@ -18,9 +18,9 @@ use Rattle.loop_normal.specs.Templates.{LoopNames, SourceLoop, source_front, lea
 use Rattle.loop_normal.specs.Denotes.{Calm, LoopMeans, GenMeans, Undeclared}
 use Rattle.loop_normal.specs.FreshNames.{Among, Source, NamesNone, AreApart, Apart}
 use Rattle.loop_normal.specs.Laws.{source_loop}
-use Rattle.nest_normal.specs.NestTexts.{nest_of, innermost, hides, loop_round, nest_round, at_loop, counted_to, zero_at, with_count}
-use Rattle.nest_normal.specs.NestDenotes.{HasNone, NestMeans}
-use Rattle.nest_normal.specs.KnownCounts.{Turns, AllTurns, IsCounterFor, UndeclaredIf}
+use Rattle.nest_normal.specs.NestTexts.{nest_of, innermost, hides, loop_round, nest_round, known_at, zero_at, with_count}
+use Rattle.nest_normal.specs.NestDenotes.{HasNone, IsSteady, NestMeans}
+use Rattle.nest_normal.specs.KnownCounts.{Turns, AllTurns, IsCounterFor, UndeclaredIf, AllFresh, DeclaresOwn}
 
 -- the normal form of one loop is a nest
 abbrev pub LeafIsNest : Type 0
@@ -73,11 +73,12 @@ NestDenotes =
     (n : ℕ) (env : Env) (names : List Name) (bs : List Body) (own : List Name) (front : Stmts) (l : GenLoop) (p : List Var) (s : State) (r : Result (List Tree) Trap) →
     HasNone own p → NestMeans n env bs (Among names) own [] front l s r → GenMeans n env bs (Among names) (nest_of front l) p s r
 
--- where the loops at a depth of a nest have a known count, the nest with that count denotes the same
+-- where the loops at a depth of a nest have a known count, the nest with that count denotes the same, without the
+-- declarations that nothing reads any more
 abbrev pub CountedNestDenotes : Type 0
 CountedNestDenotes =
     (n : ℕ) (env : Env) (bs : List Body) (names : List Name) → Calm bs → (d k : ℕ) (r : Option Name) (l : GenLoop) (p : List Var) (t : Tree) →
-    IsCounterFor (Among names) r d l p → k < 2 ^ 63 → Turns d k t → LoopMeans n env bs (Among names) l p t → LoopMeans n env bs (Among names) (at_loop d (counted_to k r) l) p t
+    IsCounterFor (Among names) r d l p → k < 2 ^ 63 → Turns d k t → LoopMeans n env bs (Among names) l p t → LoopMeans n env bs (Among names) (known_at d k r l) p t
 
 -- so does a Gen of one nest
 abbrev pub CountedDenotes : Type 0
@@ -86,8 +87,14 @@ CountedDenotes =
     IsCounterFor (Among names) r d l p → UndeclaredIf r front → k < 2 ^ 63 → AllTurns d k f →
     GenMeans n env bs (Among names) (nest_of front l) p s f → GenMeans n env bs (Among names) (with_count d k r (nest_of front l)) p s f
 
--- within outer loops too, where the loop begins at the literal 0; the nest stays steady
+-- where the loop begins at the literal 0, the nest stays steady
+abbrev pub CountedIsSteady : Type 0
+CountedIsSteady =
+    (n : ℕ) (env : Env) (bs : List Body) (names : List Name) (d k : ℕ) (l : GenLoop) (p : List Var) → zero_at d l ≡ true → k < 2 ^ 63 → IsSteady n env bs (Among names) l p → IsSteady n env bs (Among names) (known_at d k None l) p
+
+-- and it denotes the same within outer loops, where it declares fresh names of its own
 abbrev pub CountedWithin : Type 0
 CountedWithin =
     (n : ℕ) (env : Env) (bs : List Body) (names : List Name) → Calm bs → (d k : ℕ) (own : List Name) (xs : List (Name × Ty)) (front : Stmts) (l : GenLoop) (s : State) (r : Result (List Tree) Trap) →
-    zero_at d l ≡ true → k < 2 ^ 63 → AllTurns d k r → NestMeans n env bs (Among names) own xs front l s r → NestMeans n env bs (Among names) own xs front (at_loop d (counted_to k None) l) s r
+    AllFresh (Among names) own → DeclaresOwn own l → zero_at d l ≡ true → k < 2 ^ 63 → AllTurns d k r →
+    NestMeans n env bs (Among names) own xs front l s r → NestMeans n env bs (Among names) own xs front (known_at d k None l) s r

@@ -1,3 +1,4 @@
+pub mod Spelled
 pub mod NestTexts
 pub mod OuterVariables
 pub mod NestDenotes

@@ -12,7 +12,7 @@ use Rattle.c_semantics.specs.Loops.Execution.{Body}
 use Rattle.loop_normal.specs.Frames.{above, AgreesBut, Foreign}
 use Rattle.loop_normal.specs.Gens.{GenLoop, gen_loop, Inner, Nest, Seq, Looped}
 use Rattle.loop_normal.specs.Denotes.{Value, LetsRun, Fronts, PartMeans}
-use Rattle.nest_normal.specs.OuterVariables.{Outer, typed, declared, Given, puts}
+use Rattle.nest_normal.specs.OuterVariables.{Outer, typed, declared, Given, ValuesApart, puts}
 
 -- the frame has no variable of these names
 abbrev pub HasNone : List Name → List Var → Type 0
@@ -33,13 +33,13 @@ module _ (n : ℕ) (env : Env) (bs : List Body) (Out : Name → Type 0) where
 
   -- the front traps in the entry state; or it declares its variables h. Then S is said of the frame; and for all outer
   -- variables xs and all their values M is said of their declarations, the frame and the tree with these values. The
-  -- code's own fresh names are none of the frame's
+  -- code's own fresh names are none of the frame's, and no outer variable's value names one
   abbrev pub Within : List Name → List (Name × Ty) → Stmts → (List Var → Type 0) → (List Outer → List Var → Tree → Type 0) → State → Result (List Tree) Trap → Type 0
   Within own xs front S M s (Err x) = (f : List Var) → Foreign Out f → (h : List Var) × (exec_all n env front (above f s) ≡ ends (Trapped x) (above (h ++ f) s))
   Within own xs front S M s (Ok []) = ⊥
   Within own xs front S M s (Ok (t ∷ [])) =
       (h : List Var) × Fronts n env bs Out [] s front h × ((p : List Var) → HasNone own p → S (h ++ p)) ×
-      ((p : List Var) (ds : List Outer) (zs : List ℤ) → HasNone own p → typed ds ≡ xs → Given Out env.defines p ds zs → M ds (h ++ p) (puts zs t))
+      ((p : List Var) (ds : List Outer) (zs : List ℤ) → HasNone own p → typed ds ≡ xs → Given Out env.defines p ds zs → ValuesApart own ds → M ds (h ++ p) (puts zs t))
   Within own xs front S M s (Ok (t ∷ u ∷ ts)) = ⊥
 
   -- the nest is steady, and with the outer variables declared below its innermost loop it denotes the tree

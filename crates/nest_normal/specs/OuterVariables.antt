@@ -7,7 +7,8 @@ use Rattle.c_semantics.specs.Meaning.State.{Cell, Var, State, find}
 use Rattle.c_semantics.specs.Meaning.Expressions.{Define, eval}
 use Rattle.c_semantics.specs.Loops.IterationTrees.{Tree, put}
 use Rattle.loop_normal.specs.Frames.{above}
-use Rattle.loop_normal.specs.FreshNames.{Source}
+use Rattle.c_semantics.specs.Laws.Names.{Names}
+use Rattle.loop_normal.specs.FreshNames.{Source, Apart}
 use Rattle.loop_normal.specs.Gens.{GenLoop}
 use Rattle.nest_normal.specs.NestTexts.{declare_in}
 
@@ -45,3 +46,8 @@ Given Out es p (d ∷ ds) (z ∷ zs) =
 abbrev pub puts : List ℤ → Tree → Tree
 puts [] t = t
 puts (z ∷ zs) t = put z (puts zs t)
+
+-- no value of an outer variable names one of these
+abbrev pub ValuesApart : List Name → List Outer → Type 0
+ValuesApart own [] = Unit {0}
+ValuesApart own (d ∷ ds) = Names (λ y. Apart y own) d.value × ValuesApart own ds

@@ -1,7 +1,7 @@
 //! Laws of nests.
 
 ghost use Rattle.nest_normal.specs.Outlines.{CountsAreNotShown, NestsAreShown};
-ghost use Rattle.nest_normal.specs.Laws.{CountedDenotes, CountedNestDenotes, CountedWithin, HidesItsVariables, InnermostDenotes, LeafIsNest, NestDenotes, RoundDenotes, RoundIsTemplate};
+ghost use Rattle.nest_normal.specs.Laws.{CountedDenotes, CountedIsSteady, CountedNestDenotes, CountedWithin, HidesItsVariables, InnermostDenotes, LeafIsNest, NestDenotes, RoundDenotes, RoundIsTemplate};
 
 /// A nest hides exactly the names of its loops' variables; a loop whose variable it doesn't hide is put round it by the
 /// template.
@@ -28,11 +28,13 @@ pub fn nest_denotes()
     ensures { NestDenotes }
 {}
 
-/// Where the loops at a depth of a nest have a known count, the nest with that count as their end denotes the same; so does
-/// a Gen of one nest, and a nest within outer loops.
+/// Where the loops at a depth of a nest have a known count, the nest with that count as their end, and without the
+/// declarations that nothing reads any more, denotes the same; so does a Gen of one nest. A nest whose loop begins at the
+/// literal 0 stays steady, and denotes the same within outer loops.
 pub fn counted_denotes()
     ensures nest { CountedNestDenotes }
     ensures code { CountedDenotes }
+    ensures steady { CountedIsSteady }
     ensures within { CountedWithin }
 {}
 

@@ -18,12 +18,12 @@ use std::alloc::{AllocError, Global};
 
 /// The least breach of the rules of heads, else of those of counts.
 #[tactic(auto, using(crate::proofs::Tiers::tiers))]
-fn late_breach<'p>(
+fn late_breach(
     alloc: Global,
     functions: &Functions,
-    body: &'p [Stmt],
-    directive: &'p Directive,
-    scope: &mut Scope<'p>,
+    body: &[Stmt],
+    directive: &Directive,
+    scope: &mut Scope,
 ) -> Result<Option<LoopBreach>, AllocError>
     requires body { WellFormedStmts (bare_stmts body.now) }
     requires directive { WellFormedDirective (bare_directive directive.now) }
@@ -42,12 +42,12 @@ fn late_breach<'p>(
 
 /// The least breach of the rules of structure, else of those of heads and counts.
 #[tactic(auto, using(crate::proofs::Tiers::tiers))]
-fn structure_breach<'p>(
+fn structure_breach(
     alloc: Global,
     functions: &Functions,
-    body: &'p [Stmt],
-    directive: &'p Directive,
-    scope: &mut Scope<'p>,
+    body: &[Stmt],
+    directive: &Directive,
+    scope: &mut Scope,
 ) -> Result<Option<LoopBreach>, AllocError>
     requires body { WellFormedStmts (bare_stmts body.now) }
     requires directive { WellFormedDirective (bare_directive directive.now) }
@@ -69,12 +69,12 @@ fn structure_breach<'p>(
 /// `None` exactly where it breaks none. Other constructs in its body are not looked at, and afterwards the same is
 /// visible as before.
 #[tactic(auto, using(crate::proofs::Tiers::tiers))]
-pub fn construct_breach<'p>(
+pub fn construct_breach(
     alloc: Global,
     functions: &Functions,
-    body: &'p [Stmt],
-    directive: &'p Directive,
-    scope: &mut Scope<'p>,
+    body: &[Stmt],
+    directive: &Directive,
+    scope: &mut Scope,
 ) -> Result<Option<LoopBreach>, AllocError>
     requires body { WellFormedStmts (bare_stmts body.now) }
     requires directive { WellFormedDirective (bare_directive directive.now) }

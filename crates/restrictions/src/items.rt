@@ -18,12 +18,12 @@ use std::alloc::{AllocError, Global};
 
 /// The least breach in a function's body, where no variable but those of the file is visible round it.
 #[tactic(auto, using(loop_counts::proofs::Parameters::functions))]
-fn function_breach<'p>(
+fn function_breach(
     alloc: Global,
-    params: &'p [Param],
-    body: &'p [Stmt],
+    params: &[Param],
+    body: &[Stmt],
     functions: &Functions,
-    scope: &mut Scope<'p>,
+    scope: &mut Scope,
 ) -> Result<Option<LoopBreach>, AllocError>
     requires body { WellFormedStmts (bare_stmts body.now) }
     requires outside { scope.old.state.frame ≡ [] }
@@ -39,11 +39,11 @@ fn function_breach<'p>(
 /// The least breach of the constructs in an item, each by the first tier of rules that it breaks. `None` exactly where
 /// there is none. No variable but those of the file is visible round it, and afterwards the same is visible as before.
 #[tactic(auto, using(crate::proofs::Parameters::items))]
-pub fn item_breach<'p>(
+pub fn item_breach(
     alloc: Global,
-    item: &'p Item,
+    item: &Item,
     functions: &Functions,
-    scope: &mut Scope<'p>,
+    scope: &mut Scope,
 ) -> Result<Option<LoopBreach>, AllocError>
     requires well_formed { WellFormedTop (bare_top item.now) }
     requires outside { scope.old.state.frame ≡ [] }

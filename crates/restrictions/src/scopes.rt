@@ -17,7 +17,7 @@ use std::alloc::AllocError;
 
 /// Makes visible what is so in an affected loop with this head, whose variable is a private copy.
 #[tactic(auto, using(crate::proofs::Visibility::entered))]
-fn enter_affected<'p>(scope: &mut Scope<'p>, head: &'p ForHead) -> Result<(), AllocError>
+fn enter_affected(scope: &mut Scope, head: &ForHead) -> Result<(), AllocError>
     requires { WellFormedHead (bare_head head.now) }
     ensures { OnOk result (scope.new ≡ record scope.old { state = rules.scope_below scope.old.defines scope.old.state (rules.init_of (placed_head head.now)) (form.canonical scope.old.defines (bare_head head.now)) }) }
 {
@@ -36,11 +36,7 @@ fn enter_affected<'p>(scope: &mut Scope<'p>, head: &'p ForHead) -> Result<(), Al
 
 /// Makes visible what is so in a loop with this head, of which a directive round it wants so many loops.
 #[tactic(auto, using(crate::proofs::Visibility::wanted))]
-pub fn enter_loop<'p>(
-    scope: &mut Scope<'p>,
-    head: &'p ForHead,
-    wanted: u64,
-) -> Result<(), AllocError>
+pub fn enter_loop(scope: &mut Scope, head: &ForHead, wanted: u64) -> Result<(), AllocError>
     requires { WellFormedHead (bare_head head.now) }
     ensures { OnOk result (scope.new ≡ record scope.old { state = for_state scope.old.defines scope.old.state wanted (placed_head head.now) }) }
 {

@@ -25,13 +25,13 @@ use std::alloc::{AllocError, Global};
 
 /// The least breach of a construct, unless a directive round it takes it.
 #[tactic(auto, using(crate::proofs::Walks::own))]
-fn own_breach<'p>(
+fn own_breach(
     alloc: Global,
     functions: &Functions,
-    body: &'p [Stmt],
-    directive: &'p Directive,
+    body: &[Stmt],
+    directive: &Directive,
     wanted: u64,
-    scope: &mut Scope<'p>,
+    scope: &mut Scope,
 ) -> Result<Option<LoopBreach>, AllocError>
     requires body { WellFormedStmts (bare_stmts body.now) }
     requires directive { WellFormedDirective (bare_directive directive.now) }
@@ -49,12 +49,12 @@ fn own_breach<'p>(
 /// does. Afterwards the same is visible as before.
 #[tactic(auto, using(crate::proofs::Walks::kinds))]
 #[cycle(stmt_breach)]
-fn stmt_breach<'p>(
+fn stmt_breach(
     alloc: Global,
-    stmt: &'p Stmt,
+    stmt: &Stmt,
     functions: &Functions,
     wanted: u64,
-    scope: &mut Scope<'p>,
+    scope: &mut Scope,
 ) -> Result<Option<LoopBreach>, AllocError>
     requires { WellFormedStmt (bare_stmt stmt.now) }
     ensures breach { IfOk result (λ b. b ≡ least (programs.stmt_breaches scope.old.defines functions.now scope.old.state wanted (placed_stmt stmt.now))) }
@@ -110,13 +110,13 @@ fn stmt_breach<'p>(
 /// The least breach in the body of a loop.
 #[tactic(auto, using(crate::proofs::Visibility::left))]
 #[cycle(stmt_breach)]
-fn loop_breach<'p>(
+fn loop_breach(
     alloc: Global,
-    body: &'p [Stmt],
+    body: &[Stmt],
     functions: &Functions,
-    head: &'p ForHead,
+    head: &ForHead,
     wanted: u64,
-    scope: &mut Scope<'p>,
+    scope: &mut Scope,
 ) -> Result<Option<LoopBreach>, AllocError>
     requires body { WellFormedStmts (bare_stmts body.now) }
     requires head { WellFormedHead (bare_head head.now) }
@@ -132,13 +132,13 @@ fn loop_breach<'p>(
 
 /// The least breach of a construct, where no directive round it takes it, and of those in its body.
 #[cycle(stmt_breach)]
-fn omp_breach<'p>(
+fn omp_breach(
     alloc: Global,
-    body: &'p [Stmt],
+    body: &[Stmt],
     functions: &Functions,
-    directive: &'p Directive,
+    directive: &Directive,
     wanted: u64,
-    scope: &mut Scope<'p>,
+    scope: &mut Scope,
 ) -> Result<Option<LoopBreach>, AllocError>
     requires body { WellFormedStmts (bare_stmts body.now) }
     requires directive { WellFormedDirective (bare_directive directive.now) }
@@ -156,12 +156,12 @@ fn omp_breach<'p>(
 /// many loops. Afterwards the same is visible as before.
 #[tactic(auto, using(crate::proofs::Walks::lists))]
 #[cycle(stmt_breach)]
-pub fn stmts_breach<'p>(
+pub fn stmts_breach(
     alloc: Global,
-    stmts: &'p [Stmt],
+    stmts: &[Stmt],
     functions: &Functions,
     wanted: u64,
-    scope: &mut Scope<'p>,
+    scope: &mut Scope,
 ) -> Result<Option<LoopBreach>, AllocError>
     requires { WellFormedStmts (bare_stmts stmts.now) }
     ensures breach { IfOk result (λ b. b ≡ least (programs.stmts_breaches scope.old.defines functions.now scope.old.state wanted (placed_stmts stmts.now))) }

@@ -18,7 +18,7 @@ use Rattle.c_meaning.specs.Plain.{is_plain_stmt, are_plain_stmts, is_plain_part,
 use Rattle.canonical_nests.specs.LoopRules.Programs.{first_directive}
 use Rattle.loop_normal.specs.DrawnNames.{FreshNames}
 use Rattle.carried_out.specs.CarriedOut.{in_head, carried, carried_all, carried_items, carried_out}
-use Rattle.carried_out.specs.SourceNames.{beside_program}
+use Rattle.loop_normal.specs.SourceNames.{beside_program}
 use Rattle.std.proofs.lemmas.Bool.{and_parts, and_from}
 use Rattle.apply_rewrite.specs.NoDirectives.{NoDirective, NoDirectives, NoDirectiveIf, HoldsNoDirective}
 use Rattle.translator.specs.Answers.{IsBuilt, StandsFor, CarriesOut}

@@ -1,7 +1,6 @@
 use Rattle.std.proofs.Common.{◌≡◌, ◌++◌}
 use Rattle.std.specs.Vec.Iter.{into_iter_items}
-use Rattle.c_tree.specs.BareOf.{bare_program, bare_stmts}
-use Rattle.canonical_nests.specs.Canonical.{program_defines}
+use Rattle.c_tree.specs.BareOf.{bare_stmts}
 use Rattle.carried_out.specs.CarriedOut.{carried_all}
 use Rattle.apply_rewrite.proofs.Scopes.{all_after}
 use Rattle.apply_rewrite.proofs.carrying.+carrying.Given as goal
@@ -10,7 +9,8 @@ use Rattle.apply_rewrite.proofs.carrying.+carrying.Given as goal
 abbrev pub invariant-carried_all-each : goal.invariant-carried_all-each
 invariant-carried_all-each l = record {
   whole : l.fn.stmts ≡ l.yielded ++ into_iter_items l.stmt-iterator;
-  scope : l.scope ≡ all_after (bare_stmts l.yielded) l.initial.scope;
-  tree : bare_stmts l.done ≡ (carried_all (program_defines (bare_program l.defines)) l.initial.scope (bare_stmts l.yielded) l.initial.fresh).tree;
-  left : l.fresh ≡ (carried_all (program_defines (bare_program l.defines)) l.initial.scope (bare_stmts l.yielded) l.initial.fresh).left;
+  defines : l.scope.defines ≡ l.initial.scope.defines;
+  state : l.scope.state ≡ all_after (bare_stmts l.yielded) l.initial.scope.state;
+  tree : bare_stmts l.done ≡ (carried_all l.initial.scope.defines l.initial.scope.state (bare_stmts l.yielded) l.initial.fresh).tree;
+  left : l.fresh ≡ (carried_all l.initial.scope.defines l.initial.scope.state (bare_stmts l.yielded) l.initial.fresh).left;
 }

@@ -1,8 +1,0 @@
-use Rattle.std.proofs.Common.{◌≡◌, ◌++◌, [], map, drop}
-use Rattle.c_tree.specs.PlacedOf.{placed_top}
-use Rattle.canonical_nests.specs.Constructs.{constructs_from}
-use Rattle.loop_shapes.proofs.constructs.program_constructs.Given as goal
-
--- What was listed and what is left are all.
-abbrev pub invariant-each : goal.invariant-each
-invariant-each l = l.found.items ++ constructs_from l.scope.defines (map placed_top (drop l.item-index l.items)) ≡ constructs_from [] (map placed_top l.items)

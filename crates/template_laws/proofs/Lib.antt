@@ -1,0 +1,15 @@
+pub mod Lists
+pub mod Kept
+pub mod Plain
+pub mod Drawn
+pub mod WellFormed
+pub mod Shown
+pub mod Low
+pub mod StayedIn
+pub mod Scopes
+pub mod Seen
+pub mod LoopNames
+pub mod Changed
+pub mod Unread
+pub mod NoBreaches
+pub mod NormalNames
